@@ -594,12 +594,13 @@ def tests_of_go(trial):
 
 
 @suite.case()
-def tests_of_asyncio(trial):
-    """The tests of the session of Python for asyncio: what its conversations do not show."""
-    ran = run([sys.executable, "-X", "dev", "-W", "error", os.path.join(CLIENTS, "python", "test", "aio_test.py")], seconds=120)
-    passed = re.search(r"^Ran (\d+) tests", ran.error, re.MULTILINE)
-    trial.holds(ran.status == 0 and passed, ran.said + ran.error)
-    trial.note(f"Python asyncio: {passed[1] if passed else 0} tests, {int(ran.status != 0)} wrong")
+def tests_of_python(trial):
+    """The tests of Python, for asyncio and without: what conversations and files do not show."""
+    for name in "aio_test.py", "blocking_test.py":
+        ran = run([sys.executable, "-X", "dev", "-W", "error", os.path.join(CLIENTS, "python", "test", name)], seconds=120)
+        passed = re.search(r"^Ran (\d+) tests", ran.error, re.MULTILINE)
+        trial.holds(ran.status == 0 and passed, ran.said + ran.error)
+        trial.note(f"Python: {name}: {passed[1] if passed else 0} tests, {int(ran.status != 0)} wrong")
 
 
 class Reader:

@@ -170,6 +170,93 @@ def try_stampers(lines):
             print("refused", refused.number, flush=True)
 
 
+def commit_in_threads(pool, threads, each):
+    """So many commits in each of so many threads; what they gave."""
+    given = []
+
+    def commit_on():
+        for _ in range(each):
+            try:
+                given.append(pool.commit())
+            except (truetime.Refused, OSError):
+                given.append(0)
+
+    running = [threading.Thread(target=commit_on) for _ in range(threads)]
+    for thread in running:
+        thread.start()
+    for thread in running:
+        thread.join()
+    return given
+
+
+async def commit_in_tasks(pool, tasks, each):
+    """So many commits in each of so many tasks; what they gave."""
+    async def commit():
+        try:
+            return await pool.commit()
+        except (truetime.Refused, OSError):
+            return 0
+
+    async def commit_on():
+        return [await commit() for _ in range(each)]
+
+    return [stamp for given in await asyncio.gather(*(commit_on() for _ in range(tasks))) for stamp in given]
+
+
+class PoolOf:
+    """A pool of either kind, and what is out of it."""
+
+    def __init__(self, loop, words):
+        network, where, size, milliseconds = words
+        address, timeout_s = where if network == "unix" else ("127.0.0.1", int(where)), int(milliseconds) / 1000
+        self.loop, self.out = loop, []
+        if loop:
+            self.pool = aio.Pool(lambda: aio.Session.connect(address, timeout_s), int(size), timeout_s)
+        else:
+            self.pool = truetime.Pool(lambda: truetime.Session(address, timeout_s), int(size), timeout_s)
+
+    def made(self, given):
+        return self.loop.run_until_complete(given) if inspect.isawaitable(given) else given
+
+    def hold(self):
+        lent = self.pool.session()
+        self.out.append((lent, self.made(lent.__aenter__() if self.loop else lent.__enter__())))
+        return "held"
+
+    def begin(self):
+        return self.made(self.out[-1][1].begin())
+
+    def free(self):
+        while self.out:
+            lent, _ = self.out.pop()
+            self.made(lent.__aexit__(None, None, None) if self.loop else lent.__exit__(None, None, None))
+        return "freed"
+
+    def commits(self, threads, each):
+        commit = commit_in_tasks if self.loop else commit_in_threads
+        given = self.made(commit(self.pool, int(threads), int(each)))
+        stamps = [stamp for stamp in given if stamp]
+        return f"{len(stamps)} stamps, {len(set(stamps))} different, {len(given) - len(stamps)} errors"
+
+    def close(self):
+        self.made(self.pool.close())
+        return "closed"
+
+
+def try_pools(loop, lines):
+    pool = None
+    for line in lines:
+        name, *words = line.split()
+        try:
+            if name == "open":
+                pool = PoolOf(loop, words)
+            print("open" if name == "open" else getattr(pool, name)(*words), flush=True)
+        except (truetime.Refused, OSError) as error:
+            print(said_of_error(error), flush=True)
+    if loop:
+        loop.close()
+
+
 QUESTIONS = 3
 
 
@@ -237,10 +324,14 @@ elif sys.argv[1:] == ["asyncio", "session"]:
     try_sessions(aio.Session, sys.stdin)
 elif sys.argv[1:] == ["stamper"]:
     try_stampers(sys.stdin)
+elif sys.argv[1:] == ["pool"]:
+    try_pools(None, sys.stdin)
+elif sys.argv[1:] == ["asyncio", "pool"]:
+    try_pools(asyncio.new_event_loop(), sys.stdin)
 elif sys.argv[1:] == ["openings"]:
     try_openings(None, sys.stdin)
 elif sys.argv[1:] == ["asyncio", "openings"]:
     try_openings(asyncio.new_event_loop(), sys.stdin)
 else:
     sys.exit("usage: probe.py vectors | probe.py open PATH | probe.py files | probe.py [asyncio] session | probe.py stamper | "
-             "probe.py [asyncio] openings")
+             "probe.py [asyncio] pool | probe.py [asyncio] openings")

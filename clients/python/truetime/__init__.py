@@ -5,7 +5,7 @@ it as often as it likes, without a lock and without waiting::
 
     import truetime
 
-    with truetime.Client("/run/truetime/time", owner=0) as client:
+    with truetime.Client("/run/truetime/time", owner="truetime") as client:
         now = client.now()
         print(now.earliest_ns, now.latest_ns)   # the true time lies between them, in nanoseconds
 
@@ -16,9 +16,10 @@ Timestamps come from the service itself, over TCP or its Unix socket::
         ...                          # write and commit locally, under this timestamp
         session.wait()               # only now may anybody be told of the commit
 
-:mod:`truetime.aio` has the same for asyncio. Or they are taken in this process, with a lease of their own::
+:class:`Pool` has sessions for many threads, and :mod:`truetime.aio` all of it for asyncio. What sessions meet is told to the
+logger ``truetime``. Or they are taken in this process, with a lease of their own::
 
-    with truetime.Client("/run/truetime/time", owner=0) as client:
+    with truetime.Client("/run/truetime/time", owner="truetime") as client:
         stamper = truetime.Stamper(client, lease_lo_ns, lease_hi_ns)
         stamp = stamper.stamp().stamp_ns   # no other stamp of this stamper is the same
         ...                                # write and commit locally, under this timestamp
@@ -30,13 +31,21 @@ Where an owner of the file or of its folder truncates the file, a mapped one rai
 Reads version 2 of the format (its first four bytes are TTS2), and refuses a file of version 1 with 1702. Needs Linux on
 a little-endian 64-bit machine, Python 3.9 or later, and nothing but the standard library.
 """
-from ._calls import TIMEOUT_S, Interval
+import logging
+
+from ._calls import LONG_WAIT_S, TIMEOUT_S, Interval
+from .pools import Pool
 from .readers import MAX_DRIFT_PPM, Client, Publication, Reading
 from .refusals import MAX_TIME_NS, CommitPending, Refused, SessionLost
 from .sessions import Session
 from .stampers import MAX_AHEAD_NS, Stamp, Stamper
 
+__version__ = "0.3.0"
+
+logging.getLogger("truetime").addHandler(logging.NullHandler())
+
 __all__ = [
+    "LONG_WAIT_S",
     "MAX_AHEAD_NS",
     "MAX_DRIFT_PPM",
     "MAX_TIME_NS",
@@ -44,6 +53,7 @@ __all__ = [
     "Client",
     "CommitPending",
     "Interval",
+    "Pool",
     "Publication",
     "Reading",
     "Refused",

@@ -1,4 +1,5 @@
 """The rules of sessions, which the blocking session and that for asyncio share."""
+import logging
 import re
 import select
 import time
@@ -12,6 +13,11 @@ TIMEOUT_S = 30.0
 LINE_BYTES = 64
 #: The pause before a line is sent again.
 _PAUSE_S = 0.001
+#: How long a commit waits before that is told.
+LONG_WAIT_S = 1.0
+#: What sessions tell: that they connected (debug), or did so anew (info), that a connection failed and that a commit waits for long
+#: (warning), and what is refused (info).
+log = logging.getLogger("truetime")
 #: The pause before connecting again to a Unix socket at which as many wait as may.
 CONNECT_PAUSE_S = 0.005
 #: The refusals that say of the line of a pending commit that the service knows of no such one, and of the first line of a
@@ -44,6 +50,7 @@ class Calls:
         self._timeout_s = timeout_s
         # Whether a lease was ever asked for: then no commit begins without one.
         self._wants_lease = False
+        self._was_connected = False
         self.forget()
 
     def forget(self) -> None:
@@ -63,6 +70,19 @@ class Calls:
     def _is_kept(self) -> bool:
         """Whether a commit is pending whose timestamp a caller has."""
         return self._state == "waiting" and self._is_given and self._told == self._number
+
+    def connected(self, address: Address) -> None:
+        """Tells that a connection was made."""
+        if self._was_connected:
+            log.info("connected anew to %s", address)
+        else:
+            log.debug("connected to %s", address)
+        self._was_connected = True
+
+    @property
+    def is_idle(self) -> bool:
+        """Whether no commit is pending or unsure."""
+        return self._state in ("", "committed")
 
     def lost(self, failed: OSError) -> OSError:
         """Forgets what belongs to a connection that failed; the error that says so."""
@@ -167,6 +187,7 @@ class Calls:
     def _release(self, give_up: float) -> "Call[None]":
         """Sends the line of the last commit until it is released. One of which the service does not know is forgotten, with the
         connection."""
+        began, is_told = time.monotonic(), False
         while self._state == "waiting":
             try:
                 yield from self._send_commit(self._number, 0)
@@ -175,8 +196,12 @@ class Calls:
                     yield None
                 raise
             if self._state == "waiting":
-                if time.monotonic() > give_up:
+                now = time.monotonic()
+                if now > give_up:
                     raise TimeoutError("the commit is not released in time")
+                if now - began > LONG_WAIT_S and not is_told:
+                    is_told = True
+                    log.warning("the commit with timestamp %d waits for more than %g s", self._stamp_ns, LONG_WAIT_S)
                 yield _PAUSE_S
 
     def _send_commit(self, number: int, floor_ns: int) -> "Call[None]":
@@ -196,7 +221,9 @@ class Calls:
             raise not_a_reply(line, reply)
         numbers = [int(text) for text in texts]
         if word == "refused" and len(numbers) == 1 and 1 <= numbers[0] <= 65_535:
-            raise Refused(numbers[0])
+            refused = Refused(numbers[0])
+            log.info("%s: %s", line, refused)
+            raise refused
         if words.get(word) != len(numbers) or any(number > MAX_TIME_NS for number in numbers):
             raise not_a_reply(line, reply)
         return word, numbers

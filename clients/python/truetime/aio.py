@@ -8,14 +8,15 @@
         await session.wait()               # only now may anybody be told of the commit
 """
 import asyncio
+import contextlib
 import socket
 import time
-from typing import Any, Optional, TypeVar, Union, cast
+from typing import Any, AsyncIterator, Awaitable, Callable, List, Optional, TypeVar, Union, cast
 
-from ._calls import CONNECT_PAUSE_S, TIMEOUT_S, Address, Call, Calls, Interval, has_ended, reply_in
+from ._calls import CONNECT_PAUSE_S, TIMEOUT_S, Address, Call, Calls, Interval, has_ended, log, reply_in
 from .refusals import SessionLost
 
-__all__ = ["Session"]
+__all__ = ["Pool", "Session"]
 
 _T = TypeVar("_T")
 
@@ -79,7 +80,7 @@ class Session:
     """The calls of :class:`truetime.Session`, with the same refusals, errors and rules.
 
     Calls of several tasks take turns. A session has one commit at a time, so each task that commits wants a session of its
-    own.
+    own, or one of a :class:`Pool`.
 
     A call that is cancelled, as by :func:`asyncio.wait_for`, leaves the session as it is. If its line was sent, the reply is
     still to come: the next call waits for it, and drops it. The call may have been done:
@@ -116,6 +117,12 @@ class Session:
         self._drop()
         if connection:
             await asyncio.wait({connection.is_lost})
+
+    @property
+    def is_idle(self) -> bool:
+        """As :attr:`truetime.Session.is_idle`; nor may a reply be still to come."""
+        connection = self._connection
+        return connection is not None and not connection.has_ended() and self._owed is None and self._calls.is_idle
 
     async def __aenter__(self) -> "Session":
         if not self._connection:
@@ -227,6 +234,7 @@ class Session:
         if self._is_closed:  # meanwhile
             self._drop()
         self._check_open()
+        self._calls.connected(self._address)
         return connection
 
     def _check_open(self) -> None:
@@ -235,6 +243,8 @@ class Session:
 
     def _lost(self, failed: OSError) -> OSError:
         """Gives the connection up; the error that says so."""
+        if self._connection and not self._is_closed:
+            log.warning("the connection failed: %s", failed)
         error = self._calls.lost(failed)
         self._drop()
         return error
@@ -245,6 +255,74 @@ class Session:
             self._connection.end(ConnectionError("the session is closed"))
         self._connection = self._owed = None
         self._calls.forget()
+
+
+class Pool:
+    """The calls of :class:`truetime.Pool`, with the same rules. It belongs to one event loop."""
+
+    def __init__(self, opened: Callable[[], Awaitable[Session]], size: int = 8, timeout_s: float = TIMEOUT_S) -> None:
+        """Takes what gives a session that is connected, as ``lambda: aio.Session.connect(address)``."""
+        if size < 1:
+            raise ValueError("a pool has one session at least")
+        self._opened, self._size, self._timeout_s = opened, size, timeout_s
+        self._places: Optional[asyncio.Semaphore] = None
+        self._idle: List[Session] = []
+        self._is_closed = False
+
+    async def close(self) -> None:
+        """As :meth:`truetime.Pool.close`."""
+        self._is_closed = True
+        while self._idle:
+            await self._idle.pop().close()
+
+    async def __aenter__(self) -> "Pool":
+        return self
+
+    async def __aexit__(self, *_: object) -> None:
+        await self.close()
+
+    async def commit(self, floor_ns: int = 0) -> int:
+        """As :meth:`truetime.Pool.commit`."""
+        async with self.session() as session:
+            return await session.commit(floor_ns)
+
+    @contextlib.asynccontextmanager
+    async def session(self) -> AsyncIterator[Session]:
+        """As :meth:`truetime.Pool.session`, with ``async with``."""
+        places = self._places = self._places or asyncio.Semaphore(self._size)
+        await self._take_place(places)
+        try:
+            session = await self._taken()
+            try:
+                yield session
+            finally:
+                if self._is_closed or not session.is_idle:
+                    await session.close()
+                else:
+                    self._idle.append(session)
+        finally:
+            places.release()
+
+    async def _take_place(self, places: asyncio.Semaphore) -> None:
+        waiting = asyncio.get_running_loop().create_task(places.acquire())
+        try:
+            await asyncio.wait({waiting}, timeout=self._timeout_s)
+        except asyncio.CancelledError:
+            if not waiting.cancel():
+                places.release()
+            raise
+        if waiting.cancel():
+            raise TimeoutError("no session is free in time")
+
+    async def _taken(self) -> Session:
+        while self._idle and not self._is_closed:
+            session = self._idle.pop()
+            if session.is_idle:
+                return session
+            await session.close()
+        if self._is_closed:
+            raise ConnectionError("the pool is closed")
+        return await self._opened()
 
 
 async def _reach(address: Address, connection: _Connection) -> None:

@@ -1,6 +1,8 @@
 """The reader of the file in which a daemon shares its last publication."""
 import mmap
+import operator
 import os
+import pwd
 import stat
 import struct
 import sys
@@ -81,27 +83,29 @@ class Publication(NamedTuple):
 class Client:
     """A file of a daemon. Any number of threads may use one client."""
 
-    def __init__(self, path: str, owner: int, mapped: bool = True) -> None:
-        """Opens the file at this path, which the user ``owner`` has to own. Refuses with 1701 and 1702.
+    def __init__(self, path: str, owner: Union[int, str], mapped: bool = True) -> None:
+        """Opens the file at this path, which the user ``owner``, a name or a number, has to own. Refuses with 1701 and 1702.
 
-        Where it is not ``mapped``, each call reads it.
+        Where it is not ``mapped``, each call reads it. What the system said is the cause of a 1701, and the text of a 1702 says
+        what the file is not.
         """
         if sys.byteorder != "little" or _WORD.size != 8:
-            raise Refused(1702)
+            raise Refused(1702, ": this machine is not of 64 bits, or big-endian")
         self._mapped: Union[mmap.mmap, None] = None
-        self._file = _opened(path, owner)
+        self._file = _opened(path, _user_of(owner))
         if mapped:
             try:
                 self._mapped = mmap.mmap(self._file, _BYTES, mmap.MAP_SHARED, mmap.PROT_READ)
-            except (OSError, ValueError):  # a ValueError where it has become shorter
-                raise Refused(1701) from None
+            except (OSError, ValueError) as failed:  # a ValueError where it has become shorter
+                raise Refused(1701) from failed
             finally:
                 self._close_file()
 
     def close(self) -> None:
-        """Unmaps or closes the file."""
-        if self._mapped is not None:
-            self._mapped.close()
+        """Unmaps or closes the file. Calls refuse with 1701 then."""
+        mapped, self._mapped = self._mapped, None
+        if mapped is not None:
+            mapped.close()
         self._close_file()
 
     def __enter__(self) -> "Client":
@@ -133,8 +137,8 @@ class Client:
             (index,) = _WORD.unpack(os.pread(self._file, _WORD.size, _INDEX_AT))
             slot = _SLOT.unpack(os.pread(self._file, _SLOT.size, _slot_at(index)))
             return index, slot, _WORD.unpack(os.pread(self._file, _WORD.size, _INDEX_AT))[0]
-        except (OSError, struct.error):  # a struct.error where it has become shorter
-            raise Refused(1701) from None
+        except (OSError, struct.error) as failed:  # a struct.error where it has become shorter
+            raise Refused(1701) from failed
 
     def _close_file(self) -> None:
         if self._file >= 0:
@@ -147,8 +151,8 @@ class Client:
         # The clock is read after the publication, so it is not below that of the publication.
         try:
             clock_ns = time.clock_gettime_ns(time.CLOCK_MONOTONIC)
-        except OSError:
-            raise Refused(803) from None
+        except OSError as failed:
+            raise Refused(803) from failed
         return published.read_at(clock_ns)
 
 
@@ -172,26 +176,45 @@ def _slot_at(index: int) -> int:
     return _SLOTS_AT[bin(index & _LOWEST_BITS).count("1") & 1]
 
 
+def _user_of(owner: Union[int, str]) -> int:
+    """The number of a user."""
+    if not isinstance(owner, str):
+        return operator.index(owner)
+    try:
+        return pwd.getpwnam(owner).pw_uid
+    except KeyError as unknown:
+        raise Refused(1702, f": there is no user {owner}") from unknown
+
+
 def _opened(path: str, owner: int) -> int:
     try:
         file = os.open(path, os.O_RDONLY | os.O_CLOEXEC | os.O_NOFOLLOW | os.O_NONBLOCK)
-    except OSError:
-        raise Refused(1701) from None
+    except OSError as failed:
+        raise Refused(1701) from failed
     try:
-        found = os.fstat(file)
-        is_plain = stat.S_ISREG(found.st_mode) and found.st_size == _BYTES
-        if not is_plain or found.st_uid != owner or found.st_mode & (stat.S_IWGRP | stat.S_IWOTH):
-            raise Refused(1702)
-        head = os.pread(file, 64, 0)
-        if head[:16] != _HEAD or head[60:] != bytes(4) or not _is_same_clock(head[24:60]):
-            raise Refused(1702)
-    except OSError:
+        fault = _fault_of(file, owner)
+    except OSError as failed:
         os.close(file)
-        raise Refused(1701) from None
-    except Refused:
+        raise Refused(1701) from failed
+    if fault:
         os.close(file)
-        raise
+        raise Refused(1702, f": {fault}")
     return file
+
+
+def _fault_of(file: int, owner: int) -> str:
+    """Which of the checks an open file does not pass; nothing where it passes all."""
+    found = os.fstat(file)
+    if not stat.S_ISREG(found.st_mode) or found.st_size != _BYTES:
+        return f"it is no file of {_BYTES} bytes"
+    if found.st_uid != owner:
+        return f"its owner is the user {found.st_uid}, not {owner}"
+    if found.st_mode & (stat.S_IWGRP | stat.S_IWOTH):
+        return "others may write to it"
+    head = os.pread(file, 64, 0)
+    if head[:16] != _HEAD or head[60:] != bytes(4):
+        return "it is of another format, or of another version"
+    return "" if _is_same_clock(head[24:60]) else "it is of another boot, or of another clock"
 
 
 def _is_same_clock(boot: bytes) -> bool:

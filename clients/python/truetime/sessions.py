@@ -1,16 +1,21 @@
 """Sessions with the service."""
+import contextlib
 import socket
+import threading
 import time
 from typing import Optional, TypeVar
 
-from ._calls import CONNECT_PAUSE_S, LINE_BYTES, TIMEOUT_S, Address, Call, Calls, Interval, has_ended, reply_in
+from ._calls import CONNECT_PAUSE_S, LINE_BYTES, TIMEOUT_S, Address, Call, Calls, Interval, has_ended, log, reply_in
 from .refusals import SessionLost
 
 _T = TypeVar("_T")
 
 
 class Session:
-    """A session with the service: one line and its reply at a time, for one thread.
+    """A session with the service: one line and its reply at a time.
+
+    Calls of several threads take turns. A session has one commit at a time, so each thread that commits wants a session of its
+    own, or one of a :class:`truetime.Pool`.
 
     A call raises :class:`Refused` where the service refuses, and an :class:`OSError` where the connection fails:
     :class:`TimeoutError` where no reply came in time, :class:`ConnectionError` where the service ended the session or what
@@ -32,13 +37,26 @@ class Session:
         self._address, self._timeout_s = address, timeout_s
         self._calls = Calls(timeout_s)
         self._is_closed = False
+        self._turn, self._is_busy = threading.RLock(), False
         self._socket: Optional[socket.socket] = None
         self._connect()
 
     def close(self) -> None:
-        """Ends the session for good. A commit that is not released then is never known as released."""
+        """Ends the session for good, and a call of another thread that is under way, which fails. A commit that is not released
+        then is never known as released."""
         self._is_closed = True
-        self._drop()
+        connection = self._socket
+        if connection:
+            with contextlib.suppress(OSError):
+                connection.shutdown(socket.SHUT_RDWR)
+        with self._turn:
+            self._drop()
+
+    @property
+    def is_idle(self) -> bool:
+        """Whether it is connected, as far as can be seen, and no commit of it is pending."""
+        connection = self._socket
+        return connection is not None and not has_ended(connection.fileno()) and self._calls.is_idle
 
     def __enter__(self) -> "Session":
         return self
@@ -101,9 +119,18 @@ class Session:
         return self._made(self._calls.commit(floor_ns))
 
     def _made(self, call: "Call[_T]") -> _T:
-        """What a call gives."""
-        if self._is_closed:
-            raise ConnectionError("the session is closed")
+        """What a call gives, once it has its turn."""
+        with self._turn:
+            if self._is_busy:
+                raise RuntimeError("a call of this thread is under way")
+            self._is_busy = True
+            try:
+                return self._made_in_turn(call)
+            finally:
+                self._is_busy = False
+
+    def _made_in_turn(self, call: "Call[_T]") -> _T:
+        self._check_open()
         self._look()
         try:
             step = next(call)
@@ -121,6 +148,10 @@ class Session:
             return given
         except ConnectionError as failed:
             raise self._lost(failed)
+
+    def _check_open(self) -> None:
+        if self._is_closed:
+            raise ConnectionError("the session is closed")
 
     def _look(self) -> None:
         """Gives up a connection that has ended. Raises where that loses what the caller has to make good."""
@@ -158,14 +189,20 @@ class Session:
             raise
 
     def _connect(self) -> socket.socket:
+        self._check_open()
         try:
             self._socket = _connected(self._address, self._timeout_s)
-        except socket.timeout:
-            raise TimeoutError("no connection in time") from None
+        except socket.timeout as failed:
+            raise TimeoutError("no connection in time") from failed
+        self._calls.connected(self._address)
         return self._socket
 
     def _lost(self, failed: OSError) -> OSError:
         """Gives the connection up; the error that says so."""
+        if self._is_closed:
+            failed = ConnectionError("the session is closed")
+        elif self._socket:
+            log.warning("the connection failed: %s", failed)
         error = self._calls.lost(failed)
         self._drop()
         return error

@@ -1,0 +1,176 @@
+"""Tests of what is Python's own: owners by name, causes, threads that share a session, and what is logged."""
+import contextlib
+import errno
+import logging
+import os
+import pathlib
+import pwd
+import socketserver
+import struct
+import subprocess
+import sys
+import tempfile
+import threading
+import time
+import unittest
+
+sys.path.insert(0, str(pathlib.Path(__file__).resolve().parent.parent))
+
+import truetime  # noqa: E402
+
+ALWAYS = 2**64 - 1
+
+
+def file_bytes(magic=b"TTS2", boot=None):
+    """A file of one publication."""
+    with open("/proc/sys/kernel/random/boot_id", "rb") as file:
+        boot = boot or file.read(36)
+    index = (1).to_bytes(8, "little")
+    slot = (index + struct.pack("<8Q", 1, 20, 30, ALWAYS, 7, 1, 0, ALWAYS)).ljust(128, b"\0")
+    return magic + struct.pack("<IQ", 320, 1) + index + boot + bytes(4) + bytes(128) + slot
+
+
+class Files(unittest.TestCase):
+    def setUp(self):
+        folder = tempfile.TemporaryDirectory()
+        self.addCleanup(folder.cleanup)
+        self.path = os.path.join(folder.name, "time")
+        self.write(file_bytes())
+
+    def write(self, content, mode=0o644):
+        with open(self.path, "wb") as file:
+            file.write(content)
+        os.chmod(self.path, mode)
+
+    def refusal(self, owner=None, path=None):
+        with self.assertRaises(truetime.Refused) as caught:
+            truetime.Client(path or self.path, os.geteuid() if owner is None else owner)
+        return caught.exception
+
+    def test_owner_by_name(self):
+        with truetime.Client(self.path, pwd.getpwuid(os.geteuid()).pw_name) as client:
+            self.assertEqual(client.read().number, 1)
+        self.assertIn("its owner is the user", str(self.refusal("nobody")))
+        unknown = self.refusal("no-such-user")
+        self.assertEqual((unknown.number, type(unknown.__cause__)), (1702, KeyError))
+        with self.assertRaises(TypeError):
+            truetime.Client(self.path, None)
+
+    def test_causes(self):
+        for path, number in (self.path + "x", errno.ENOENT), (os.path.join(self.path, "x"), errno.ENOTDIR):
+            refused = self.refusal(path=path)
+            self.assertEqual((refused.number, refused.__cause__.errno), (1701, number))
+        for content, mode, why in (
+            (file_bytes()[:-1], 0o644, "it is no file of 320 bytes"), (file_bytes(), 0o664, "others may write to it"),
+            (file_bytes(magic=b"TTS1"), 0o644, "it is of another format, or of another version"),
+            (file_bytes(boot=b"x" * 36), 0o644, "it is of another boot, or of another clock"),
+        ):
+            self.write(content, mode)
+            refused = self.refusal()
+            self.assertEqual((refused.number, str(refused).partition("clock: ")[2]), (1702, why))
+
+    def test_a_closed_client_refuses(self):
+        for mapped in (True, False):
+            client = truetime.Client(self.path, os.geteuid(), mapped)
+            client.close()
+            client.close()
+            with self.assertRaises(truetime.Refused) as caught:
+                client.now()
+            self.assertEqual(caught.exception.number, 1701)
+
+
+class Echoing(socketserver.StreamRequestHandler):
+    """A session whose replies are made of its lines; a commit is released after the service says so."""
+
+    def handle(self):
+        with contextlib.suppress(ConnectionError):
+            for line in self.rfile:
+                word, *numbers = line.split()
+                if word == b"now":
+                    return  # it ends
+                time.sleep(0.001)
+                if word == b"after":
+                    self.wfile.write(b"yes\n" if int(numbers[0]) % 2 else b"no\n")
+                elif word == b"before":
+                    self.wfile.write(b"refused 801\n")
+                else:
+                    self.server.asked.set()
+                    said = b"committed" if self.server.releases.is_set() else b"waiting"
+                    self.wfile.write(b"%s %s 77\n" % (said, numbers[0]))
+
+
+class Sessions(unittest.TestCase):
+    def setUp(self):
+        self.server = socketserver.ThreadingTCPServer(("127.0.0.1", 0), Echoing)
+        self.server.daemon_threads = True
+        self.server.releases, self.server.asked = threading.Event(), threading.Event()
+        threading.Thread(target=self.server.serve_forever, args=(0.01,), daemon=True).start()
+        self.session = truetime.Session(self.server.server_address, 10)
+        self.addCleanup(self.server.server_close)
+        self.addCleanup(self.server.shutdown)
+        self.addCleanup(self.session.close)
+
+    def test_threads_take_turns(self):
+        wrong = []
+
+        def ask(odd):
+            for number in range(odd, 200, 2):
+                if self.session.after(number) != bool(odd):
+                    wrong.append(number)
+
+        threads = [threading.Thread(target=ask, args=(number % 2,)) for number in range(6)]
+        for thread in threads:
+            thread.start()
+        for thread in threads:
+            thread.join()
+        self.assertEqual(wrong, [])
+
+    def test_closing_ends_a_call_of_another_thread(self):
+        failed = []
+
+        def commit():
+            try:
+                self.session.commit()
+            except OSError as error:
+                failed.append(error)
+
+        thread = threading.Thread(target=commit)
+        thread.start()
+        self.assertTrue(self.server.asked.wait(10))
+        self.session.close()
+        thread.join(5)
+        self.assertEqual([type(error) for error in failed], [ConnectionError])
+        with self.assertRaisesRegex(ConnectionError, "the session is closed"):
+            self.session.after(1)
+
+    def test_log(self):
+        with self.assertLogs("truetime", logging.DEBUG) as told:
+            other = truetime.Session(self.server.server_address, 10)
+            self.addCleanup(other.close)
+            with self.assertRaises(truetime.Refused):
+                other.before(1)
+            with self.assertRaises(ConnectionError):
+                other.now()
+            other.after(1)
+            timer = threading.Timer(1.5 * truetime.LONG_WAIT_S, self.server.releases.set)
+            timer.start()
+            other.commit()
+        address = self.server.server_address
+        self.assertEqual([(record.levelname, record.getMessage()) for record in told.records], [
+            ("DEBUG", f"connected to {address}"),
+            ("INFO", "before 1: refused 801: the daemon has published nothing so far, or nothing is published any more"),
+            ("WARNING", "the connection failed: the service ended the session"),
+            ("INFO", f"connected anew to {address}"),
+            ("WARNING", "the commit with timestamp 77 waits for more than 1 s"),
+        ])
+
+    def test_nothing_is_printed_without_a_handler(self):
+        code = ("import sys, truetime\nsession = truetime.Session(('127.0.0.1', int(sys.argv[1])))\n"
+                "try:\n    session.now()\nexcept ConnectionError:\n    pass\n")
+        ran = subprocess.run([sys.executable, "-c", code, str(self.server.server_address[1])], capture_output=True, text=True,
+                             env={**os.environ, "PYTHONPATH": sys.path[0]}, check=True)
+        self.assertEqual(ran.stdout + ran.stderr, "")
+
+
+if __name__ == "__main__":
+    unittest.main()
