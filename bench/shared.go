@@ -9,20 +9,21 @@ import (
 	"fmt"
 	"log"
 	"os"
+	"strconv"
 	"time"
 
-	truetime "example.org/truetime/clients/go"
+	"example.org/truetime/clients/go/truetime"
 )
 
 const batches, calls = 500, 1000
 
 func main() {
 	log.SetFlags(0)
-	client, err := truetime.Open(os.Args[1], uint32(os.Geteuid()))
+	client, err := truetime.Open(os.Args[1], strconv.Itoa(os.Geteuid()))
 	if err != nil {
 		log.Fatal(err)
 	}
-	var sum uint64
+	var sum int64
 	least := time.Duration(1<<63 - 1)
 	for batch := 0; batch < batches; batch++ {
 		since := time.Now()

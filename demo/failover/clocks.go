@@ -5,21 +5,22 @@ import (
 	"errors"
 	"fmt"
 	"os"
+	"strconv"
 	"sync"
 	"time"
 
-	truetime "example.org/truetime/clients/go"
+	"example.org/truetime/clients/go/truetime"
 )
 
 // A clock is one machine's time, and its stamps in the span of one term.
 type clock interface {
 	// latest gives the latest time that it may be now. It fails where the machine does not run.
-	latest(ctx context.Context) (uint64, error)
+	latest(ctx context.Context) (int64, error)
 	// grant has the stamps of commits that begin from now on lie in this span, which begins where the last one did, and
 	// ends above that.
 	grant(span truetime.Lease) error
 	// begin gives the stamp of a commit, and a call that has to be made, and that returns once the stamp has surely passed.
-	begin(ctx context.Context) (stamp uint64, wait func(context.Context) error, err error)
+	begin(ctx context.Context) (stamp int64, wait func(context.Context) error, err error)
 	close()
 }
 
@@ -81,7 +82,7 @@ func (c *sessionClock) check(err error) error {
 }
 
 // latest also asks by one idle session after the other, so that the machine closes none for being silent.
-func (c *sessionClock) latest(ctx context.Context) (uint64, error) {
+func (c *sessionClock) latest(ctx context.Context) (int64, error) {
 	select {
 	case session := <-c.idle:
 		_, err := session.Now(ctx)
@@ -103,7 +104,7 @@ func (c *sessionClock) grant(span truetime.Lease) error {
 	return nil
 }
 
-func (c *sessionClock) begin(ctx context.Context) (uint64, func(context.Context) error, error) {
+func (c *sessionClock) begin(ctx context.Context) (int64, func(context.Context) error, error) {
 	var session *leased
 	select {
 	case session = <-c.idle:
@@ -127,7 +128,7 @@ func (c *sessionClock) begin(ctx context.Context) (uint64, func(context.Context)
 	return stamp, wait, nil
 }
 
-func (s *leased) begin(ctx context.Context, span truetime.Lease) (uint64, error) {
+func (s *leased) begin(ctx context.Context, span truetime.Lease) (int64, error) {
 	if s.told != span {
 		if err := s.Lease(ctx, span.Lo, span.Hi); err != nil {
 			return 0, err
@@ -151,11 +152,11 @@ type stamperClock struct {
 
 	mutex sync.Mutex
 	parts []*truetime.Stamper // those that are not over, the earliest first
-	end   uint64              // of the last part
+	end   int64               // of the last part
 }
 
 func openStampers(path string) (clock, error) {
-	client, err := truetime.Open(path, uint32(os.Geteuid()))
+	client, err := truetime.Open(path, strconv.Itoa(os.Geteuid()))
 	if err != nil {
 		return nil, err
 	}
@@ -167,7 +168,7 @@ func openStampers(path string) (clock, error) {
 	return c, nil
 }
 
-func (c *stamperClock) latest(context.Context) (uint64, error) {
+func (c *stamperClock) latest(context.Context) (int64, error) {
 	now, err := c.client.Now()
 	if err == nil && !now.Fresh {
 		err = fmt.Errorf("the machine is late or gone")
@@ -189,7 +190,7 @@ func (c *stamperClock) grant(span truetime.Lease) error {
 	return err
 }
 
-func (c *stamperClock) begin(context.Context) (uint64, func(context.Context) error, error) {
+func (c *stamperClock) begin(context.Context) (int64, func(context.Context) error, error) {
 	stamper, given, err := c.stamp()
 	if err != nil {
 		return 0, nil, err

@@ -14,7 +14,7 @@ import (
 	"testing"
 	"time"
 
-	truetime "example.org/truetime/clients/go"
+	"example.org/truetime/clients/go/truetime"
 )
 
 // sharedFile writes a file as a machine shares it: a time that has passed long ago as seen from 3000000000000000000, and the last
@@ -51,8 +51,8 @@ func TestAPartOfTheSpanIsUsedUpBeforeTheNext(t *testing.T) {
 	if _, _, err := clock.begin(ctx); err != truetime.LeaseOver {
 		t.Error("without a span:", err)
 	}
-	var given []uint64
-	for _, hi := range []uint64{lo + 1, lo + 4} {
+	var given []int64
+	for _, hi := range []int64{lo + 1, lo + 4} {
 		if err := clock.grant(truetime.Lease{Lo: lo, Hi: hi}); err != nil {
 			t.Fatal(err)
 		}
@@ -112,7 +112,7 @@ func newMachine(t *testing.T) *machine {
 func (m *machine) serve(conn net.Conn) {
 	defer conn.Close()
 	lines := bufio.NewScanner(conn)
-	for lo, begun := uint64(0), uint64(0); lines.Scan(); {
+	for lo, begun := int64(0), int64(0); lines.Scan(); {
 		words := strings.Fields(lines.Text())
 		if words[0] == "now" {
 			fmt.Fprintln(conn, "now 10 20")
@@ -121,7 +121,7 @@ func (m *machine) serve(conn net.Conn) {
 		m.mutex.Lock()
 		m.lines = append(m.lines, lines.Text())
 		m.mutex.Unlock()
-		var number uint64
+		var number int64
 		fmt.Sscan(words[1], &number)
 		switch {
 		case words[0] == "lease":
@@ -148,7 +148,7 @@ func TestASessionIsToldOfTheSpanBeforeACommitThatNeedsIt(t *testing.T) {
 			t.Fatal(err)
 		}
 		stamp, wait, err := clock.begin(ctx)
-		if err != nil || stamp != uint64(101+turn) {
+		if err != nil || stamp != int64(101+turn) {
 			t.Fatal(stamp, err)
 		}
 		if err := wait(ctx); err != nil {

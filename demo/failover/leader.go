@@ -11,7 +11,7 @@ import (
 	"sync/atomic"
 	"time"
 
-	truetime "example.org/truetime/clients/go"
+	"example.org/truetime/clients/go/truetime"
 )
 
 const tick = 10 * time.Millisecond // between two looks of a leader or a candidate
@@ -160,8 +160,8 @@ func (a *agent) readRecord(ctx context.Context, t *term) error {
 
 // extend has the term's span end further on where less than half of it is left. A span begins less than its length ahead of
 // the time, else the next look grants it.
-func (a *agent) extend(ctx context.Context, t *term, latest uint64) error {
-	span, isNew := uint64(a.span), t.span.Hi < t.span.Lo
+func (a *agent) extend(ctx context.Context, t *term, latest int64) error {
+	span, isNew := int64(a.span), t.span.Hi < t.span.Lo
 	if a.noSpans && isNew {
 		t.span = truetime.Lease{Lo: 0, Hi: truetime.MaxTime}
 	} else if end := latest + span; t.span.Hi < end && (isNew || t.span.Hi < latest+span/2) {
@@ -179,7 +179,7 @@ func (a *agent) extend(ctx context.Context, t *term, latest uint64) error {
 }
 
 // grant records an end of the term's span, if this term's agent still leads and the record is as it was.
-func (a *agent) grant(ctx context.Context, t *term, end uint64) error {
+func (a *agent) grant(ctx context.Context, t *term, end int64) error {
 	compare := []object{createdAt(a.leaderKey(), t.number), changedAt(a.spanKey(), t.revision)}
 	put := []object{putting(a.spanKey(), fmt.Sprint(end, t.number), 0)}
 	found, err := a.etcd.try(ctx, compare, put, a.leaderKey(), a.spanKey())
@@ -200,12 +200,12 @@ func (a *agent) grant(ctx context.Context, t *term, end uint64) error {
 }
 
 // parseRecord reads the record of spans; none is `0 0`.
-func parseRecord(record pair) (end uint64, term int64, err error) {
+func parseRecord(record pair) (end, term int64, err error) {
 	if record.ModRevision == 0 {
 		return 0, 0, nil
 	}
 	first, second, _ := strings.Cut(string(record.Value), " ")
-	if end, err = strconv.ParseUint(first, 10, 64); err == nil {
+	if end, err = parseTime(first); err == nil {
 		term, err = strconv.ParseInt(second, 10, 64)
 	}
 	if err != nil {
@@ -216,7 +216,7 @@ func parseRecord(record pair) (end uint64, term int64, err error) {
 
 // commit writes a value under a stamp of the current term, and returns once that has surely passed: only then may anybody be
 // told. After an error the value may have been written, too.
-func (a *agent) commit(ctx context.Context, key, value string) (stamp uint64, number int64, err error) {
+func (a *agent) commit(ctx context.Context, key, value string) (stamp int64, number int64, err error) {
 	t := a.current.Load()
 	if t == nil {
 		return 0, 0, errNotLeader
@@ -244,7 +244,7 @@ func (a *agent) commit(ctx context.Context, key, value string) (stamp uint64, nu
 }
 
 // write puts a version of a key, if this term's agent still leads. Its key has the stamp, so it may be put more than once.
-func (a *agent) write(ctx context.Context, t *term, key, value string, stamp uint64) error {
+func (a *agent) write(ctx context.Context, t *term, key, value string, stamp int64) error {
 	name := fmt.Sprintf("%s%s/%019d", a.dataKey(), key, stamp)
 	put := []object{putting(name, fmt.Sprint(t.number)+" "+value, 0)}
 	found, err := a.etcd.try(ctx, []object{createdAt(a.leaderKey(), t.number)}, put)

@@ -7,26 +7,26 @@ import (
 	"testing"
 	"time"
 
-	truetime "example.org/truetime/clients/go"
+	"example.org/truetime/clients/go/truetime"
 )
 
 // A stopped clock shows one time, and gives its stamps in order from the span's beginning.
 type stoppedClock struct {
-	now    uint64
+	now    int64
 	span   truetime.Lease
-	given  uint64
+	given  int64
 	passed chan struct{} // a stamp has passed once this is closed; nil: at once
 	broken error
 }
 
-func (c *stoppedClock) latest(context.Context) (uint64, error) { return c.now, c.broken }
+func (c *stoppedClock) latest(context.Context) (int64, error) { return c.now, c.broken }
 
 func (c *stoppedClock) grant(span truetime.Lease) error {
 	c.span = span
 	return nil
 }
 
-func (c *stoppedClock) begin(context.Context) (uint64, func(context.Context) error, error) {
+func (c *stoppedClock) begin(context.Context) (int64, func(context.Context) error, error) {
 	c.given++
 	return c.span.Lo + c.given - 1, func(context.Context) error {
 		if c.passed != nil {
@@ -69,7 +69,7 @@ func TestASpanBeginsAboveEachEndThatWasRecorded(t *testing.T) {
 	if one.span != (truetime.Lease{Lo: 1, Hi: 6000}) {
 		t.Error(one.span)
 	}
-	for _, step := range []struct{ latest, end uint64 }{{5500, 6000}, {5501, 6501}, {5600, 6501}} {
+	for _, step := range []struct{ latest, end int64 }{{5500, 6000}, {5501, 6501}, {5600, 6501}} {
 		if err := a.extend(ctx, one, step.latest); err != nil || first.span != (truetime.Lease{Lo: 1, Hi: step.end}) {
 			t.Error(step, first.span, err)
 		}
@@ -204,7 +204,7 @@ func TestVersions(t *testing.T) {
 			t.Error(put)
 		}
 	}
-	for at, wanted := range map[uint64]string{5: "5 3 y z", 6: "5 3 y z", 8: "7 3 x", 100: "9 4 "} {
+	for at, wanted := range map[int64]string{5: "5 3 y z", 6: "5 3 y z", 8: "7 3 x", 100: "9 4 "} {
 		if last, isThere := r.last("a/k", at); !isThere || last.String() != wanted {
 			t.Error(at, last)
 		}

@@ -5,6 +5,7 @@ import (
 	"fmt"
 	"io"
 	"log"
+	"math"
 	"net/http"
 	"path"
 	"strconv"
@@ -24,7 +25,7 @@ type replica struct {
 
 // A version is what a commit wrote.
 type version struct {
-	stamp uint64
+	stamp int64
 	term  int64
 	value string
 }
@@ -53,11 +54,17 @@ func (r *replica) followAll(ctx context.Context, from *etcd, prefix string) {
 	}
 }
 
+// parseTime reads a time, which is not negative.
+func parseTime(text string) (int64, error) {
+	time, err := strconv.ParseUint(text, 10, 63)
+	return int64(time), err
+}
+
 // apply adds a version: its name is KEY/STAMP, its text `TERM VALUE`.
 func (r *replica) apply(name, text string) error {
 	key, last := path.Split(name)
 	first, value, _ := strings.Cut(text, " ")
-	stamp, err := strconv.ParseUint(last, 10, 64)
+	stamp, err := parseTime(last)
 	if err != nil {
 		return err
 	}
@@ -72,7 +79,7 @@ func (r *replica) apply(name, text string) error {
 }
 
 // last gives the version of a key with the greatest stamp that is at most `at`.
-func (r *replica) last(key string, at uint64) (last version, isThere bool) {
+func (r *replica) last(key string, at int64) (last version, isThere bool) {
 	for _, version := range r.all(key) {
 		if version.stamp <= at && (!isThere || last.stamp < version.stamp) {
 			last, isThere = version, true
@@ -145,10 +152,10 @@ func (s *server) put(w http.ResponseWriter, r *http.Request, key string) {
 }
 
 func (s *server) get(w http.ResponseWriter, r *http.Request, key string) {
-	at := ^uint64(0)
+	at := int64(math.MaxInt64)
 	if text := r.URL.Query().Get("at"); text != "" {
 		var err error
-		if at, err = strconv.ParseUint(text, 10, 64); err != nil {
+		if at, err = parseTime(text); err != nil {
 			http.Error(w, err.Error(), http.StatusBadRequest)
 			return
 		}

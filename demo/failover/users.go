@@ -28,10 +28,10 @@ type users struct {
 func (u *users) now() int64 { return u.started.UnixNano() + int64(time.Since(u.started)) }
 
 // write writes one value after the other until the context ends, and gives the stamps of the commits that were acknowledged.
-func (u *users) write(ctx context.Context, key string) (stamps []uint64) {
+func (u *users) write(ctx context.Context, key string) (stamps []int64) {
 	for at, count := 0, 0; ctx.Err() == nil; count++ {
 		sleep(ctx, time.Duration(rand.Int63n(int64(u.pause)+1)))
-		var stamp uint64
+		var stamp int64
 		var term int64
 		began := u.now()
 		text, err := u.ask(http.MethodPut, u.agents[at]+"/keys/"+key, fmt.Sprint(count))
@@ -70,13 +70,13 @@ func (u *users) ask(method, url, given string) (string, error) {
 
 // missing gives how many of these versions an agent's replica does not have, once it has gained none for some time: an agent that was just
 // started follows all that was ever written.
-func (u *users) missing(agent, key string, stamps []uint64) (missing int) {
+func (u *users) missing(agent, key string, stamps []int64) (missing int) {
 	missing = len(stamps) + 1
 	for try := 0; try < 100 && missing > 0; try++ {
 		text, _ := u.ask(http.MethodGet, agent+"/versions/"+key, "")
-		has := map[uint64]bool{}
+		has := map[int64]bool{}
 		for _, line := range strings.Split(text, "\n") {
-			var stamp uint64
+			var stamp int64
 			fmt.Sscan(line, &stamp)
 			has[stamp] = true
 		}
@@ -96,7 +96,7 @@ func (u *users) missing(agent, key string, stamps []uint64) (missing int) {
 
 // run has users write until the context ends, and gives how many versions that were acknowledged some replica does not have.
 func (u *users) run(ctx context.Context, number int) (missing int) {
-	stamps := make([][]uint64, number)
+	stamps := make([][]int64, number)
 	keyOf := func(user int) string { return fmt.Sprintf("user-%d", user) }
 	var writing sync.WaitGroup
 	for user := range stamps {

@@ -27,7 +27,7 @@ from harness.program import WARNINGS, in_top, run
 from harness.suite import Suite
 
 suite = Suite(__name__)
-CLIENTS, GO = in_top("clients"), in_top("clients/go")
+CLIENTS, GO = in_top("clients"), in_top("clients/go/truetime")
 MAX, SECOND = 4_000_000_000_000_000_000, 1_000_000_000
 
 

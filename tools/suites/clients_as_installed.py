@@ -164,16 +164,16 @@ def versions(trial):
 # What no case waits for, and what the documents promise of languages: a file, a pattern, and what it has to find.
 MEANT = [
     ("clients/python/truetime/_calls.py", r"^TIMEOUT_S = (.*)$", "30.0"),
-    ("clients/go/session.go", r"^const Timeout = (.*)$", "30 * time.Second"),
+    ("clients/go/truetime/session.go", r"^const Timeout = (.*)$", "30 * time.Second"),
     ("clients/c/truetime.h", r"\bTT_TRIES = (\d+)", "1000"),
     ("clients/python/truetime/readers.py", r"^_TRIES = (\d+)$", "1000"),
     ("clients/rust/src/lib.rs", r"^const TRIES: usize = (\d+);", "1000"),
     ("clients/java/TrueTime.java", r" TRIES = (\d+);", "1000"),
-    ("clients/go/shared.go", r"^\ttries += (\d+)$", "1000"),
+    ("clients/go/truetime/shared.go", r"^\ttries += (\d+)$", "1000"),
     ("clients/rust/Cargo.toml", r'^rust-version = "(.*)"$', "1.73"), ("clients/README.md", r"`clients/rust`, Rust (\S+) or later", "1.73"),
     ("clients/python/pyproject.toml", r'^requires-python = ">=(.*)"$', "3.9"), ("clients/README.md", r"`pip install .*, Python (\S+) or later", "3.9"),
     ("clients/java/pom.xml", r"<maven.compiler.release>(.*)<", "17"), ("clients/README.md", r"`java/pom.xml`, Java (\S+) or later", "17"),
-    ("clients/go/go.mod", r"^go (.*)$", "1.19"), ("clients/README.md", r"`example.org/truetime/clients/go`, Go (\S+) or later", "1.19"),
+    ("clients/go/truetime/go.mod", r"^go (.*)$", "1.19"), ("clients/README.md", r"`example.org/truetime/clients/go/truetime`, Go (\S+) or later", "1.19"),
 ]
 
 
@@ -210,8 +210,8 @@ def words_of_refusals():
     yield "Python", [(int(number), text) for number, text in pairs("python/truetime/refusals.py", r'^    (\d+): "(.*)",$')]
     yield "Rust", [(int(number), text) for number, text in pairs("rust/src/lib.rs", r'^        (\d+) => "(.*)",$')]
     yield "Java", [(int(number), text) for number, text in pairs("java/TrueTime.java", r'Map\.entry\((\d+), "(.*?)"\)')]
-    numbers = dict(pairs("go/errors.go", r"^\t(\w+) +(?:Refusal )?= (\d+) +//"))
-    yield "Go", [(int(numbers[name]), text) for name, text in pairs("go/errors.go", r'^\t(\w+): +"(.*)",$')]
+    numbers = dict(pairs("go/truetime/errors.go", r"^\t(\w+) +(?:Refusal )?= (\d+) +//"))
+    yield "Go", [(int(numbers[name]), text) for name, text in pairs("go/truetime/errors.go", r'^\t(\w+): +"(.*)",$')]
 
 
 @suite.case()
@@ -490,9 +490,9 @@ def go(trial):
     """The module by `replace` in that of a user, and its examples."""
     if not has_go():
         return
-    room, module = trial.room, "example.org/truetime/clients/go"
+    room, module = trial.room, "example.org/truetime/clients/go/truetime"
     with copied(trial) as clients, StandIn(room) as stand_in:
-        trial.equal("go.mod", read_text("clients/go/go.mod").splitlines()[0], f"module {module}")
+        trial.equal("go.mod", read_text("clients/go/truetime/go.mod").splitlines()[0], f"module {module}")
         examples, env = examples_in("clients/README.md", "Go"), go_in(room)
         for number, example in enumerate(examples):
             folder = f"{room}/user_{number}"
@@ -502,7 +502,7 @@ def go(trial):
             text = (f'package main\n\nimport (\n\t"context"\n\t"fmt"\n\n\ttruetime "{module}"\n)\n\nfunc main() {{\n\tctx := context.Background()\n'
                     f"{example.beside(stand_in)}{used}\tfmt.Print()\n\t_ = ctx\n\t_ = truetime.Open\n}}\n")
             write(f"{folder}/main.go", text.encode())
-            write(f"{folder}/go.mod", f"module example.org/user\n\ngo 1.19\n\nrequire {module} v{VERSION}\n\nreplace {module} => {clients}/go\n".encode())
+            write(f"{folder}/go.mod", f"module example.org/user\n\ngo 1.19\n\nrequire {module} v{VERSION}\n\nreplace {module} => {clients}/go/truetime\n".encode())
             succeeds(trial, f"go build {number}", ["go", "build", "-o", "user", "."], cwd=folder, env=env)
             try_example(trial, f"example {number}", example, stand_in, [f"{folder}/user"])
     note_examples(trial, examples, "go build in another module, by `replace`")

@@ -8,14 +8,14 @@ const MaxDrift = 100_000
 
 // An Interval holds the true time: it lies from Earliest to Latest, both included, in nanoseconds.
 type Interval struct {
-	Earliest, Latest uint64
+	Earliest, Latest int64
 }
 
 // After says whether time t has surely passed.
-func (i Interval) After(t uint64) bool { return t < i.Earliest }
+func (i Interval) After(t int64) bool { return t < i.Earliest }
 
 // Before says whether time t has surely not arrived.
-func (i Interval) Before(t uint64) bool { return t > i.Latest }
+func (i Interval) Before(t int64) bool { return t > i.Latest }
 
 // allTimes comes with each error.
 var allTimes = Interval{0, MaxTime}
@@ -76,11 +76,11 @@ func widened(elapsed, drift uint64) uint64 {
 	return elapsed/1_000_000*drift + (elapsed%1_000_000*drift+999_999)/1_000_000
 }
 
-func cut(t uint64) uint64 {
+func cut(t uint64) int64 {
 	if t > MaxTime {
 		return MaxTime
 	}
-	return t
+	return int64(t)
 }
 
 func (p *Publication) isInRange() bool {

@@ -7,7 +7,9 @@ import (
 	"errors"
 	"io/fs"
 	"os"
+	"os/user"
 	"runtime"
+	"strconv"
 	"strings"
 	"sync/atomic"
 	"syscall"
@@ -34,14 +36,17 @@ type Client struct {
 	byRuntime bool           // whether the clock of the runtime is CLOCK_MONOTONIC
 }
 
+var errClosed = &FileError{NoFile, fs.ErrClosed}
+
 // A mapping is the memory of a mapped file.
 type mapping struct {
 	words *[fileWords]uint64 // loaded by sync/atomic alone
 }
 
-// Open maps the file at this path, which the user with this id has to own. It refuses with NoFile and OtherFile. Where an
-// owner of the file or of its folder truncates the file, a reading ends the process (SIGBUS); one of OpenUnmapped refuses.
-func Open(path string, owner uint32) (*Client, error) {
+// Open maps the file at this path, which this user, a name or a number, has to own. It refuses with NoFile and OtherFile, each
+// in a FileError. Where an owner of the file or of its folder truncates the file, a reading ends the process (SIGBUS); one of
+// OpenUnmapped refuses.
+func Open(path, owner string) (*Client, error) {
 	file, err := openFile(path, owner)
 	if err != nil {
 		return nil, err
@@ -49,7 +54,7 @@ func Open(path string, owner uint32) (*Client, error) {
 	defer file.Close()
 	bytes, err := syscall.Mmap(int(file.Fd()), 0, fileBytes, syscall.PROT_READ, syscall.MAP_SHARED)
 	if err != nil {
-		return nil, NoFile
+		return nil, &FileError{NoFile, err}
 	}
 	mapped := &mapping{(*[fileWords]uint64)(unsafe.Pointer(&bytes[0]))} // it begins at a page
 	runtime.SetFinalizer(mapped, func(*mapping) { syscall.Munmap(bytes) })
@@ -59,7 +64,7 @@ func Open(path string, owner uint32) (*Client, error) {
 }
 
 // OpenUnmapped opens it as Open, and each call reads it, by three system calls.
-func OpenUnmapped(path string, owner uint32) (*Client, error) {
+func OpenUnmapped(path, owner string) (*Client, error) {
 	file, err := openFile(path, owner)
 	if err != nil {
 		return nil, err
@@ -148,11 +153,14 @@ func (c *Client) read(published *Publication) error {
 
 // readUnmapped is read of a file that is not mapped.
 func (c *Client) readUnmapped(published *Publication) error {
+	if c.file == nil {
+		return errClosed
+	}
 	for try := 0; try < tries; try++ {
 		var word [slotWords]uint64
 		index, again, err := copyUnmapped(c.file, &word)
 		if err != nil {
-			return NoFile
+			return &FileError{NoFile, err}
 		}
 		if again != index {
 			continue
@@ -223,35 +231,59 @@ func readWords(file *os.File, place int, words []uint64) error {
 }
 
 // openFile opens the file at this path, where it is such a file.
-func openFile(path string, owner uint32) (*os.File, error) {
+func openFile(path, owner string) (*os.File, error) {
+	uid, err := userOf(owner)
+	if err != nil {
+		return nil, &FileError{OtherFile, err}
+	}
 	// A FIFO in place of the file does not block the opening.
 	file, err := os.OpenFile(path, os.O_RDONLY|syscall.O_NOFOLLOW|syscall.O_NONBLOCK, 0)
 	if err != nil {
-		return nil, NoFile
+		return nil, &FileError{NoFile, err}
 	}
-	if err := checkFile(file, owner); err != nil {
+	if err := checkFile(file, uid); err != nil {
 		file.Close()
 		return nil, err
 	}
 	return file, nil
 }
 
-func checkFile(file *os.File, owner uint32) error {
+// userOf gives the number of a user.
+func userOf(owner string) (uint64, error) {
+	if uid, err := strconv.ParseUint(owner, 10, 32); err == nil {
+		return uid, nil
+	}
+	found, err := user.Lookup(owner)
+	if err != nil {
+		return 0, err
+	}
+	return strconv.ParseUint(found.Uid, 10, 32)
+}
+
+func checkFile(file *os.File, owner uint64) error {
 	found, err := file.Stat()
 	if err != nil {
-		return NoFile
+		return &FileError{NoFile, err}
 	}
 	of, ok := found.Sys().(*syscall.Stat_t)
-	if !ok || !found.Mode().IsRegular() || found.Size() != fileBytes || of.Uid != owner || found.Mode().Perm()&0o022 != 0 {
-		return OtherFile
+	switch {
+	case !ok || !found.Mode().IsRegular() || found.Size() != fileBytes:
+		return &FileError{OtherFile, ErrFileKind}
+	case uint64(of.Uid) != owner:
+		return &FileError{OtherFile, ErrFileOwner}
+	case found.Mode().Perm()&0o022 != 0:
+		return &FileError{OtherFile, ErrFileWritable}
 	}
 	var bytes [8 * firstSlot]byte
 	if _, err := file.ReadAt(bytes[:], 0); err != nil {
-		return NoFile
+		return &FileError{NoFile, err}
 	}
 	// The boot has 36 letters, and 4 zeros follow.
-	if string(bytes[:len(head)]) != head || string(bytes[60:]) != "\x00\x00\x00\x00" || !isSameClock(string(bytes[24:60])) {
-		return OtherFile
+	if string(bytes[:len(head)]) != head || string(bytes[60:]) != "\x00\x00\x00\x00" {
+		return &FileError{OtherFile, ErrFileFormat}
+	}
+	if !isSameClock(string(bytes[24:60])) {
+		return &FileError{OtherFile, ErrFileClock}
 	}
 	return nil
 }

@@ -9,7 +9,7 @@ import (
 	"net"
 	"time"
 
-	truetime "example.org/truetime/clients/go"
+	"example.org/truetime/clients/go/truetime"
 )
 
 // startStandIn gives the address of a stand-in for the service, which gives these replies on its one connection.

@@ -4,6 +4,7 @@ import (
 	"context"
 	"errors"
 	"os"
+	"strconv"
 	"testing"
 	"time"
 )
@@ -29,7 +30,7 @@ func dialMachine(t testing.TB) map[string]*Session {
 	return sessions
 }
 
-func hostTime() uint64 { return uint64(time.Now().UnixNano()) }
+func hostTime() int64 { return int64(time.Now().UnixNano()) }
 
 // beside checks what a call gives against the time of this host before and after it.
 func beside(t *testing.T, what string, call func() (Interval, error)) {
@@ -44,9 +45,9 @@ func beside(t *testing.T, what string, call func() (Interval, error)) {
 func TestMachineReads(t *testing.T) {
 	for network, session := range dialMachine(t) {
 		beside(t, network, func() (Interval, error) { return session.Now(always) })
-		for what, ask := range map[string]func(t uint64) (bool, error){
-			"after":  func(t uint64) (bool, error) { return session.After(always, t) },
-			"before": func(t uint64) (bool, error) { return session.Before(always, t) },
+		for what, ask := range map[string]func(t int64) (bool, error){
+			"after":  func(t int64) (bool, error) { return session.After(always, t) },
+			"before": func(t int64) (bool, error) { return session.Before(always, t) },
 		} {
 			past, err := ask(hostTime() - 10_000_000_000)
 			coming, also := ask(hostTime() + 10_000_000_000)
@@ -55,8 +56,8 @@ func TestMachineReads(t *testing.T) {
 			}
 		}
 	}
-	for _, open := range []func(string, uint32) (*Client, error){Open, OpenUnmapped} {
-		client, err := open(os.Getenv("TRUETIME_FILE"), uint32(os.Geteuid()))
+	for _, open := range []func(string, string) (*Client, error){Open, OpenUnmapped} {
+		client, err := open(os.Getenv("TRUETIME_FILE"), strconv.Itoa(os.Geteuid()))
 		if err == ErrUnsupported {
 			continue
 		}
@@ -75,7 +76,7 @@ func TestMachineReads(t *testing.T) {
 }
 
 // commitBeside makes a commit, whose timestamp lies between two looks at the time of this host.
-func commitBeside(t *testing.T, session *Session, floor uint64) uint64 {
+func commitBeside(t *testing.T, session *Session, floor int64) int64 {
 	t.Helper()
 	before := hostTime()
 	begun, _, err := session.Begin(always, floor)
@@ -90,7 +91,7 @@ func commitBeside(t *testing.T, session *Session, floor uint64) uint64 {
 }
 
 func TestMachineCommits(t *testing.T) {
-	last := uint64(0)
+	last := int64(0)
 	sessions := dialMachine(t)
 	for turn := 0; turn < 20; turn++ {
 		for network, session := range sessions {

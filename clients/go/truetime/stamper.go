@@ -14,16 +14,16 @@ const longestSleep = 50 * time.Millisecond
 
 // A Lease is the times from which timestamps are given, from Lo to Hi, both included.
 type Lease struct {
-	Lo, Hi uint64
+	Lo, Hi int64
 }
 
-// StampOf is the rule of all timestamps. It gives the least number up to MaxTime that is no less than the latest of the
+// StampOf is the rule of all timestamps, of numbers that are not negative. It gives the least number up to MaxTime that is no less than the latest of the
 // reading, the floor, the lower end of the lease, and free. That is the least number above all timestamps given: 0 before the
 // first one, and then one more than the last one.
 //
 // It refuses, in this order, with FloorTooFar where the floor is more than MaxAhead above the latest, with UsedUp where there
 // is no such number, and with LeaseOver where it is above the upper end of the lease. The timestamp is 0 then.
-func (l Lease) StampOf(free, latest, floor uint64) (uint64, error) {
+func (l Lease) StampOf(free, latest, floor int64) (int64, error) {
 	if floor > latest && floor-latest > MaxAhead {
 		return 0, FloorTooFar
 	}
@@ -37,7 +37,7 @@ func (l Lease) StampOf(free, latest, floor uint64) (uint64, error) {
 	return stamp, nil
 }
 
-func later(a, b uint64) uint64 {
+func later(a, b int64) int64 {
 	if a < b {
 		return b
 	}
@@ -47,7 +47,7 @@ func later(a, b uint64) uint64 {
 // A Stamp is a timestamp, and the reading by which it was given, which was taken in the call. Fresh is false where the daemon
 // is late or gone, and another Epoch than before is another life of the daemon; the timestamp is as good in each case.
 type Stamp struct {
-	Timestamp uint64
+	Timestamp int64
 	Reading
 }
 
@@ -66,7 +66,7 @@ type Stamp struct {
 type Stamper struct {
 	client *Client
 	lease  Lease
-	free   atomic.Uint64 // the least number above all timestamps given: 0, or one more than the last one
+	free   atomic.Int64 // the least number above all timestamps given: 0, or one more than the last one
 }
 
 // NewStamper gives a stamper by this client, with the whole of time as its lease. It has given no timestamp.
@@ -74,9 +74,12 @@ func NewStamper(client *Client) *Stamper {
 	return &Stamper{client: client, lease: Lease{0, MaxTime}}
 }
 
-// NewStamperWithLease is NewStamper with a lease. It refuses with LeaseBackwards where the ends of the lease are out of order,
-// then with LeasePastMax where the upper one is above MaxTime.
+// NewStamperWithLease is NewStamper with a lease. It fails with ErrNegative, and refuses with LeaseBackwards where the ends of
+// the lease are out of order, then with LeasePastMax where the upper one is above MaxTime.
 func NewStamperWithLease(client *Client, lease Lease) (*Stamper, error) {
+	if lease.Lo < 0 {
+		return nil, ErrNegative
+	}
 	if lease.Hi < lease.Lo {
 		return nil, LeaseBackwards
 	}
@@ -89,9 +92,12 @@ func NewStamperWithLease(client *Client, lease Lease) (*Stamper, error) {
 // Stamp gives the timestamp of a commit: the least that is no less than the latest of a reading taken in this call, the floor
 // and the lower end of the lease, and above every timestamp that this stamper gave before. It lies in the lease.
 //
-// It refuses as Client.Now, then as Lease.StampOf. After a refusal nothing is used up. By a mapped file it makes no system call
+// It fails with ErrNegative, and refuses as Client.Now, then as Lease.StampOf. After a refusal nothing is used up. By a mapped file it makes no system call
 // but the clock's. It has one load and one exchange, and one more of each where another goroutine was faster.
-func (s *Stamper) Stamp(floor uint64) (Stamp, error) {
+func (s *Stamper) Stamp(floor int64) (Stamp, error) {
+	if floor < 0 {
+		return Stamp{Reading: Reading{Interval: allTimes}}, ErrNegative
+	}
 	now, err := s.client.Now()
 	if err != nil {
 		return Stamp{Reading: Reading{Interval: allTimes}}, err
@@ -110,7 +116,7 @@ func (s *Stamper) Stamp(floor uint64) (Stamp, error) {
 
 // IsPast says whether a timestamp has surely passed: it is below the earliest of a reading taken in this call. Only then may
 // anybody be told of its commit. It refuses as Client.Now, and makes the system calls of that.
-func (s *Stamper) IsPast(stamp uint64) (bool, error) {
+func (s *Stamper) IsPast(stamp int64) (bool, error) {
 	now, err := s.client.Now()
 	if err != nil {
 		return false, err
@@ -123,7 +129,7 @@ func (s *Stamper) IsPast(stamp uint64) (bool, error) {
 // long as the timestamp is ahead of the earliest, at most 50 milliseconds at once.
 //
 // It refuses as Client.Now, at once. The timestamp is as it was after each error: wait again.
-func (s *Stamper) WaitPast(ctx context.Context, stamp uint64) (bool, error) {
+func (s *Stamper) WaitPast(ctx context.Context, stamp int64) (bool, error) {
 	for {
 		now, err := s.client.Now()
 		if err != nil {
@@ -136,7 +142,7 @@ func (s *Stamper) WaitPast(ctx context.Context, stamp uint64) (bool, error) {
 			return false, err
 		}
 		sleep := longestSleep
-		if ahead := stamp - now.Earliest; ahead < uint64(longestSleep) {
+		if ahead := stamp - now.Earliest; ahead < int64(longestSleep) {
 			sleep = time.Duration(ahead) + 1
 		}
 		timer := time.NewTimer(sleep)

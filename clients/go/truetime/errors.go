@@ -94,16 +94,53 @@ var (
 	ErrNoCommit = errors.New("truetime: no commit was begun")
 	// ErrBadLine is the error of Ask where the line has more than 64 bytes or is not printable ASCII. Nothing was sent.
 	ErrBadLine = errors.New("truetime: the line is too long, or has a byte that is not printable")
+	// ErrNegative is the error of a call that was given a negative time. Nothing was sent.
+	ErrNegative = errors.New("truetime: a time is negative")
+	// ErrPoolClosed is the error of a Pool that was closed.
+	ErrPoolClosed = errors.New("truetime: the pool is closed")
 	// ErrReply is within a BrokenError where what came is no reply.
 	ErrReply = errors.New("not a reply")
 	// ErrUnsupported is the error of Open where the file cannot be read on this system.
 	ErrUnsupported = errors.New("truetime: the shared file needs Linux on a little-endian machine of 64 bits; ask by a session")
 )
 
+// What a file is not, within the FileError of an OtherFile.
+var (
+	ErrFileKind     = errors.New("it is no file of 320 bytes")
+	ErrFileOwner    = errors.New("it has another owner")
+	ErrFileWritable = errors.New("others may write to it")
+	ErrFileFormat   = errors.New("it is of another format, or of another version")
+	ErrFileClock    = errors.New("it is of another boot, or of another clock")
+)
+
+// A FileError is a NoFile, with what the system said (fs.ErrNotExist, fs.ErrPermission, fs.ErrClosed and so on), or an
+// OtherFile, with which check of the file failed. errors.Is finds either, and errors.As the Refusal.
+type FileError struct {
+	Refusal Refusal
+	Err     error
+}
+
+func (f *FileError) Error() string { return f.Refusal.Error() + ": " + f.Err.Error() }
+
+// Unwrap gives the reason.
+func (f *FileError) Unwrap() error { return f.Err }
+
+// Is says whether this is the refusal.
+func (f *FileError) Is(target error) bool { return target == f.Refusal }
+
+// As gives the refusal.
+func (f *FileError) As(target any) bool {
+	refusal, ok := target.(*Refusal)
+	if ok {
+		*refusal = f.Refusal
+	}
+	return ok
+}
+
 // A PendingError is the CommitPending of Begin and Commit: a commit that Begin began is not known as released. Call Wait.
 type PendingError struct {
-	Commit uint64 // its number in the session
-	Stamp  uint64 // its timestamp
+	Commit int64 // its number in the session
+	Stamp  int64 // its timestamp
 }
 
 func (p *PendingError) Error() string {
@@ -122,9 +159,9 @@ func (p *PendingError) Unwrap() error { return CommitPending }
 // until it is set again.
 type BrokenError struct {
 	Err       error
-	Commit    uint64 // the number of the commit of Begin that was pending; 0 where none was
-	Stamp     uint64 // its timestamp
-	LostLease bool   // whether the session had a lease
+	Commit    int64 // the number of the commit of Begin that was pending; 0 where none was
+	Stamp     int64 // its timestamp
+	LostLease bool  // whether the session had a lease
 }
 
 func (b *BrokenError) Error() string {

@@ -6,8 +6,8 @@ import "testing"
 func TestStampOf(t *testing.T) {
 	const all = MaxTime
 	for _, row := range []struct {
-		free, latest, floor, lo, hi uint64
-		stamp                       uint64
+		free, latest, floor, lo, hi int64
+		stamp                       int64
 		err                         error
 	}{
 		{0, 0, 0, 0, all, 0, nil},
@@ -28,7 +28,7 @@ func TestStampOf(t *testing.T) {
 		{0, 250, 10_000_000_251, 0, all, 0, FloorTooFar},
 		{20_000_000_000, 250, 10_000_000_251, 0, all, 0, FloorTooFar},
 		{0, 250, 10_000_000_251, 20_000_000_000, all, 0, FloorTooFar},
-		{0, 250, 1<<64 - 1, 0, all, 0, FloorTooFar},
+		{0, 250, 1<<63 - 1, 0, all, 0, FloorTooFar},
 		// The end of time.
 		{0, all, 0, 0, all, all, nil},
 		{all, all, all, all, all, all, nil},
@@ -62,7 +62,8 @@ func TestStampOf(t *testing.T) {
 func TestLeasesOfStampers(t *testing.T) {
 	for lease, want := range map[Lease]error{
 		{8, 7}:                   LeaseBackwards,
-		{1<<64 - 1, MaxTime + 1}: LeaseBackwards,
+		{1<<63 - 1, MaxTime + 1}: LeaseBackwards,
+		{-1, MaxTime + 1}:        ErrNegative,
 		{7, MaxTime + 1}:         LeasePastMax,
 		{7, 7}:                   nil,
 		{0, MaxTime}:             nil,
@@ -78,7 +79,10 @@ func TestStamperRefusals(t *testing.T) {
 	client := new(Client)
 	_, want := client.Now()
 	stamper := NewStamper(client)
-	if given, err := stamper.Stamp(1<<64 - 1); given.Timestamp != 0 || given.Interval != allTimes || err != want || want == nil {
+	if given, err := stamper.Stamp(1<<63 - 1); given.Timestamp != 0 || given.Interval != allTimes || err != want || want == nil {
+		t.Error(given, err)
+	}
+	if given, err := stamper.Stamp(-1); given.Timestamp != 0 || err != ErrNegative {
 		t.Error(given, err)
 	}
 	if is, err := stamper.IsPast(0); is || err != want {

@@ -13,7 +13,7 @@
 // mapped file makes no system call and allocates nothing, and any number of goroutines may call it. That needs Linux on a
 // little-endian machine of 64 bits; elsewhere [Open] fails with [ErrUnsupported]:
 //
-//	client, err := truetime.Open("/run/truetime/time", 0) // 0: the user who has to own the file
+//	client, err := truetime.Open("/run/truetime/time", "truetime") // the user who has to own the file, by name or number
 //	now, err := client.Now()
 //
 // A [Stamper] gives timestamps by that file in the database's own process, without the service. Nobody may be told of a

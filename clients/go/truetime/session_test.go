@@ -88,7 +88,7 @@ func cancelled(t *testing.T, heard <-chan struct{}, call func(ctx context.Contex
 	}
 }
 
-func wantStamp(t *testing.T, want, stamp uint64, err error) {
+func wantStamp(t *testing.T, want, stamp int64, err error) {
 	t.Helper()
 	if stamp != want || err != nil {
 		t.Fatal(stamp, err, "in place of", want)
@@ -265,7 +265,7 @@ func TestBeginIsRefused(t *testing.T) {
 			"commit 2 0", "refused 801", "commit 3 0", "waiting 3 300", "commit 3 0", "committed 3 300")
 	})
 	for _, begin := range []struct {
-		floor uint64
+		floor int64
 		want  error
 	}{{9, FloorTooFar}, {8, ClockFailed}, {0, Nothing}} {
 		if _, _, err := session.Begin(always, begin.floor); err != begin.want {

@@ -5,12 +5,16 @@ package truetime
 import (
 	"encoding/binary"
 	"errors"
+	"io/fs"
 	"os"
+	"os/user"
 	"path/filepath"
 	"runtime"
+	"strconv"
 	"strings"
 	"sync"
 	"sync/atomic"
+	"syscall"
 	"testing"
 	"time"
 	"unsafe"
@@ -67,9 +71,9 @@ func makeFile(t testing.TB, count uint64, p Publication) string {
 }
 
 // me is the user of this process.
-func me() uint32 { return uint32(os.Geteuid()) }
+func me() string { return strconv.Itoa(os.Geteuid()) }
 
-var ways = map[string]func(string, uint32) (*Client, error){"mapped": Open, "unmapped": OpenUnmapped}
+var ways = map[string]func(string, string) (*Client, error){"mapped": Open, "unmapped": OpenUnmapped}
 
 func openFor(t testing.TB, way, path string) *Client {
 	t.Helper()
@@ -90,8 +94,8 @@ func TestNow(t *testing.T) {
 			before := uint64(systemNanotime())
 			now, err := client.Now()
 			after := uint64(systemNanotime())
-			elapsed := now.Earliest - lo
-			want := Reading{Interval{lo + elapsed, hi + elapsed}, 7, 9, until > 0}
+			elapsed := uint64(now.Earliest - lo)
+			want := Reading{Interval{lo + int64(elapsed), hi + int64(elapsed)}, 7, 9, until > 0}
 			if err != nil || now != want || elapsed < before-clock || elapsed > after-clock {
 				t.Error(way, now, err)
 			}
@@ -124,10 +128,10 @@ func TestRefusals(t *testing.T) {
 			}
 		}
 		path := makeFile(t, 1, Publication{UsableUntil: noLimit})
-		if _, err := open(path+"-not", me()); err != NoFile {
+		if _, err := open(path+"-not", me()); !errors.Is(err, NoFile) || !errors.Is(err, fs.ErrNotExist) {
 			t.Error(way, err)
 		}
-		if _, err := open(path, me()+1); err != OtherFile {
+		if _, err := open(path, strconv.Itoa(os.Geteuid()+1)); !errors.Is(err, OtherFile) || !errors.Is(err, ErrFileOwner) {
 			t.Error(way, err)
 		}
 		client := openFor(t, way, path)
@@ -135,7 +139,7 @@ func TestRefusals(t *testing.T) {
 			t.Error(way, err)
 		}
 		client.Close()
-		if now, err := client.Now(); err != NoFile || now.Interval != allTimes {
+		if now, err := client.Now(); !errors.Is(err, NoFile) || now.Interval != allTimes {
 			t.Error(way, now, err)
 		}
 	}
@@ -159,7 +163,7 @@ func TestClosing(t *testing.T) {
 						return
 					}
 				}
-				if err != NoFile {
+				if !errors.Is(err, NoFile) {
 					t.Error(err)
 				}
 			}()
@@ -321,7 +325,7 @@ func TestShorter(t *testing.T) {
 		if err := os.WriteFile(path, whole[:length], 0o644); err != nil {
 			t.Fatal(err)
 		}
-		if _, err := OpenUnmapped(path, me()); err != OtherFile {
+		if _, err := OpenUnmapped(path, me()); !errors.Is(err, OtherFile) {
 			t.Error(length, err)
 		}
 		if _, err := client.Now(); !errors.Is(err, NoFile) {
@@ -355,7 +359,7 @@ func benchmarkNow(b *testing.B, way string, byRuntime bool) {
 		if err != nil {
 			b.Fatal(err)
 		}
-		sum += now.Earliest
+		sum += uint64(now.Earliest)
 	}
 }
 
@@ -384,5 +388,52 @@ func BenchmarkClock(b *testing.B) {
 func BenchmarkClockSyscall(b *testing.B) {
 	for turn := 0; turn < b.N; turn++ {
 		sum += uint64(systemNanotime())
+	}
+}
+
+// TestCausesOfFiles has each check of a file, and what the system said, in the error.
+func TestCausesOfFiles(t *testing.T) {
+	for way, open := range ways {
+		good := makeFile(t, 1, publicationOf(1))
+		if client, err := open(good, "no-such-user"); client != nil || !errors.Is(err, OtherFile) || !errors.As(err, new(user.UnknownUserError)) {
+			t.Error(way, err)
+		}
+		if here, err := user.Current(); err == nil {
+			if client, err := open(good, here.Username); err != nil {
+				t.Error(way, err)
+			} else {
+				client.Close()
+			}
+		}
+		if _, err := open(good+"/x", me()); !errors.Is(err, NoFile) || !errors.Is(err, syscall.ENOTDIR) {
+			t.Error(way, err)
+		}
+		whole, err := os.ReadFile(good)
+		if err != nil {
+			t.Fatal(err)
+		}
+		for cause, change := range map[error]func(file []byte) ([]byte, os.FileMode){
+			ErrFileKind:     func(file []byte) ([]byte, os.FileMode) { return file[1:], 0o644 },
+			ErrFileWritable: func(file []byte) ([]byte, os.FileMode) { return file, 0o664 },
+			ErrFileFormat:   func(file []byte) ([]byte, os.FileMode) { file[3] = '1'; return file, 0o644 },
+			ErrFileClock:    func(file []byte) ([]byte, os.FileMode) { file[24] ^= 1; return file, 0o644 },
+		} {
+			bytes, mode := change(append([]byte(nil), whole...))
+			other := filepath.Join(t.TempDir(), "time")
+			if err := os.WriteFile(other, bytes, mode); err != nil {
+				t.Fatal(err)
+			}
+			if err := os.Chmod(other, mode); err != nil {
+				t.Fatal(err)
+			}
+			var refusal Refusal
+			_, err := open(other, me())
+			if !errors.Is(err, OtherFile) || !errors.Is(err, cause) || !errors.As(err, &refusal) || refusal != OtherFile {
+				t.Error(way, err, "in place of", cause)
+			}
+			if err != nil && !strings.HasSuffix(err.Error(), cause.Error()) {
+				t.Error(err)
+			}
+		}
 	}
 }

@@ -8,10 +8,10 @@ import (
 )
 
 // lineOf gives a line that is this word and numbers.
-func lineOf(word string, numbers ...uint64) string {
+func lineOf(word string, numbers ...int64) string {
 	line := []byte(word)
 	for _, number := range numbers {
-		line = strconv.AppendUint(append(line, ' '), number, 10)
+		line = strconv.AppendInt(append(line, ' '), number, 10)
 	}
 	return string(line)
 }
@@ -51,7 +51,7 @@ func isInterval(reply string) bool {
 func isYesOrNo(reply string) bool { return reply == "yes" || reply == "no" }
 
 // stampIn gives the timestamp in a reply to the line of this commit, and whether the commit is released.
-func stampIn(reply string, number uint64) (stamp uint64, isCommitted, ok bool) {
+func stampIn(reply string, number int64) (stamp int64, isCommitted, ok bool) {
 	numbers, isCommitted := numbersBehind(reply, "committed", 2)
 	if !isCommitted {
 		numbers, ok = numbersBehind(reply, "waiting", 2)
@@ -61,14 +61,14 @@ func stampIn(reply string, number uint64) (stamp uint64, isCommitted, ok bool) {
 
 // numbersBehind gives the numbers of a reply that is this word and so many numbers, each in its one spelling and at most
 // the greatest time.
-func numbersBehind(reply, word string, count int) (numbers [2]uint64, ok bool) {
+func numbersBehind(reply, word string, count int) (numbers [2]int64, ok bool) {
 	words := strings.Split(reply, " ")
 	if words[0] != word || len(words) != count+1 {
 		return numbers, false
 	}
 	for place, text := range words[1:] {
-		number, err := strconv.ParseUint(text, 10, 64)
-		if err != nil || number > MaxTime || strconv.FormatUint(number, 10) != text {
+		number, err := strconv.ParseInt(text, 10, 64)
+		if err != nil || number < 0 || number > MaxTime || strconv.FormatInt(number, 10) != text {
 			return numbers, false
 		}
 		numbers[place] = number

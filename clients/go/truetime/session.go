@@ -13,6 +13,21 @@ import (
 	"time"
 )
 
+// LongWait is how long a commit waits before a Logger is told.
+const LongWait = time.Second
+
+// A Logger is told what a session meets: a text, and names with their values, as log/slog has them.
+type Logger interface {
+	Info(text string, args ...any)
+	Warn(text string, args ...any)
+}
+
+// silent is the Logger of a session without one.
+type silent struct{}
+
+func (silent) Info(string, ...any) {}
+func (silent) Warn(string, ...any) {}
+
 // Timeout is how long connecting, and each reply, may take, unless SetTimeout says otherwise.
 const Timeout = 30 * time.Second
 
@@ -23,7 +38,7 @@ const (
 )
 
 // A Session is a connection to the service: one line and its reply at a time. Calls of several goroutines take turns. A
-// session has one commit at a time, so each goroutine that commits wants a session of its own.
+// session has one commit at a time, so each goroutine that commits wants a session of its own, or one of a Pool.
 //
 // A call ends when its context does, with the context's error, and the session goes on. If its line was sent, the reply is
 // still to come: the next call waits for it, and drops it. A call that was cancelled may have been done:
@@ -42,6 +57,7 @@ const (
 type Session struct {
 	network, address string
 	timeout          atomic.Int64
+	logger           atomic.Pointer[Logger]
 	turn             chan struct{} // full while a call is under way
 	closed           chan struct{}
 	closeOnce        sync.Once
@@ -74,8 +90,8 @@ type reply struct {
 
 // A commit is the last one that the service may have begun. Commits are counted from 1.
 type commit struct {
-	number    uint64
-	stamp     uint64
+	number    int64
+	stamp     int64
 	isStamped bool // whether the timestamp is known
 	isPending bool // whether it may not be released
 	isTold    bool // whether a caller may wait for it
@@ -143,6 +159,30 @@ func (s *Session) dial(ctx context.Context) (net.Conn, error) {
 	}
 }
 
+// SetLogger sets who is told that the session connected anew (Info), what was refused (Info), that its connection failed, and
+// that a commit waits for more than LongWait (Warn). A *slog.Logger is one.
+func (s *Session) SetLogger(logger Logger) { s.logger.Store(&logger) }
+
+func (s *Session) log() Logger {
+	if logger := s.logger.Load(); logger != nil && *logger != nil {
+		return *logger
+	}
+	return silent{}
+}
+
+// isIdle says whether the session is connected, as far as can be seen, and no commit of it is pending and no reply owed.
+func (s *Session) isIdle() bool {
+	select {
+	case s.turn <- struct{}{}:
+		defer func() { <-s.turn }()
+	default:
+		return false
+	}
+	link := s.link.Load()
+	return s.ended(context.Background()) == nil && link != nil && s.judge == nil && !s.last.isPending &&
+		len(link.replies) == 0 && !hasEnded(link.conn)
+}
+
 // SetTimeout sets how long the reply to a line, and connecting anew, may take; 0 is without end.
 func (s *Session) SetTimeout(timeout time.Duration) { s.timeout.Store(int64(timeout)) }
 
@@ -182,18 +222,21 @@ func (s *Session) Now(ctx context.Context) (Interval, error) {
 	return now, err
 }
 
-// After says whether time t has surely passed.
-func (s *Session) After(ctx context.Context, t uint64) (bool, error) {
-	return s.compare(ctx, lineOf("after", t))
+// After says whether time t has surely passed. It fails with ErrNegative.
+func (s *Session) After(ctx context.Context, t int64) (bool, error) {
+	return s.compare(ctx, "after", t)
 }
 
-// Before says whether time t has surely not arrived.
-func (s *Session) Before(ctx context.Context, t uint64) (bool, error) {
-	return s.compare(ctx, lineOf("before", t))
+// Before says whether time t has surely not arrived. It fails with ErrNegative.
+func (s *Session) Before(ctx context.Context, t int64) (bool, error) {
+	return s.compare(ctx, "before", t)
 }
 
-func (s *Session) compare(ctx context.Context, line string) (bool, error) {
-	isSo := false
+func (s *Session) compare(ctx context.Context, word string, t int64) (bool, error) {
+	if t < 0 {
+		return false, ErrNegative
+	}
+	isSo, line := false, lineOf(word, t)
 	err := s.inTurn(ctx, func() error {
 		reply, err := s.question(ctx, line, isYesOrNo)
 		isSo = reply == "yes"
@@ -203,9 +246,9 @@ func (s *Session) compare(ctx context.Context, line string) (bool, error) {
 }
 
 // Begin begins a commit, and gives its timestamp, no less than floor, and whether it is released already, so that Wait sends
-// nothing. It fails with a PendingError before the last commit that it began is known as released, and refuses with LeaseOver
+// nothing. It fails with ErrNegative, with a PendingError before the last commit that it began is known as released, and refuses with LeaseOver
 // where the lease is over or was lost with its connection: set it again. One that Commit left pending is ended first.
-func (s *Session) Begin(ctx context.Context, floor uint64) (stamp uint64, isCommitted bool, err error) {
+func (s *Session) Begin(ctx context.Context, floor int64) (stamp int64, isCommitted bool, err error) {
 	err = s.inTurn(ctx, func() error {
 		if err := s.begin(ctx, floor); err != nil {
 			return err
@@ -220,7 +263,7 @@ func (s *Session) Begin(ctx context.Context, floor uint64) (stamp uint64, isComm
 // Wait waits until the timestamp of the commit has surely passed, and gives it: only then may anybody be told of the commit.
 // After a refusal, or where the context ended, it may be called again. It fails with ErrNoCommit where no commit was begun, or
 // the connection of the last one failed.
-func (s *Session) Wait(ctx context.Context) (stamp uint64, err error) {
+func (s *Session) Wait(ctx context.Context) (stamp int64, err error) {
 	err = s.inTurn(ctx, func() (err error) {
 		stamp, err = s.wait(ctx)
 		return err
@@ -231,7 +274,7 @@ func (s *Session) Wait(ctx context.Context) (stamp uint64, err error) {
 // Commit begins a commit, waits for its release, and gives its timestamp, with the errors of Begin and Wait. Where it fails
 // while it waits, the commit stays pending, and nobody has its timestamp: Wait goes on with it, and the next Commit or Begin
 // waits for its release first, and then begins another one.
-func (s *Session) Commit(ctx context.Context, floor uint64) (stamp uint64, err error) {
+func (s *Session) Commit(ctx context.Context, floor int64) (stamp int64, err error) {
 	err = s.inTurn(ctx, func() error {
 		err := s.begin(ctx, floor)
 		if err == nil {
@@ -243,8 +286,11 @@ func (s *Session) Commit(ctx context.Context, floor uint64) (stamp uint64, err e
 }
 
 // Lease sets the lease of this session: the timestamps of commits that begin from now on lie from lo to hi, both included.
-// After a refusal the lease is what it was.
-func (s *Session) Lease(ctx context.Context, lo, hi uint64) error {
+// After a refusal, or ErrNegative, the lease is what it was.
+func (s *Session) Lease(ctx context.Context, lo, hi int64) error {
+	if lo < 0 || hi < 0 {
+		return ErrNegative
+	}
 	return s.inTurn(ctx, func() error {
 		s.wantsLease = true
 		_, err := s.question(ctx, lineOf("lease", lo, hi), func(reply string) bool {
@@ -272,7 +318,10 @@ func (s *Session) Ask(ctx context.Context, line string) (string, error) {
 
 // Commits.
 
-func (s *Session) begin(ctx context.Context, floor uint64) error {
+func (s *Session) begin(ctx context.Context, floor int64) error {
+	if floor < 0 {
+		return ErrNegative
+	}
 	if s.last.isPending && s.last.isGiven {
 		return &PendingError{s.last.number, s.last.stamp}
 	}
@@ -301,7 +350,7 @@ func (s *Session) end(ctx context.Context) error {
 }
 
 // sendBegin sends the first line of the next commit.
-func (s *Session) sendBegin(ctx context.Context, floor uint64) error {
+func (s *Session) sendBegin(ctx context.Context, floor int64) error {
 	if s.wantsLease && !s.hasLease {
 		return LeaseOver
 	}
@@ -324,7 +373,7 @@ func (s *Session) sendBegin(ctx context.Context, floor uint64) error {
 	return err
 }
 
-func (s *Session) wait(ctx context.Context) (uint64, error) {
+func (s *Session) wait(ctx context.Context) (int64, error) {
 	if !s.last.isTold {
 		return 0, ErrNoCommit
 	}
@@ -337,6 +386,7 @@ func (s *Session) wait(ctx context.Context) (uint64, error) {
 // release sends the line of the last commit until it is known as released. One of which the service does not know is forgotten,
 // with the connection.
 func (s *Session) release(ctx context.Context) error {
+	began, isTold := time.Now(), false
 	for s.last.isPending {
 		if err := s.sendAgain(ctx); err != nil {
 			if isUnknown(err) {
@@ -346,6 +396,10 @@ func (s *Session) release(ctx context.Context) error {
 		}
 		if !s.last.isPending {
 			return nil
+		}
+		if !isTold && time.Since(began) > LongWait {
+			isTold = true
+			s.log().Warn("truetime: a commit waits for long", "address", s.address, "timestamp", s.last.stamp)
 		}
 		timer := time.NewTimer(pause)
 		select {
@@ -457,6 +511,7 @@ func (s *Session) exchange(ctx context.Context, line string, judge func(reply st
 		if err != nil {
 			return "", s.fail(err)
 		}
+		s.log().Info("truetime: connected anew", "address", s.address)
 		link = made
 	}
 	select {
@@ -492,6 +547,7 @@ func (s *Session) receive(ctx context.Context, link *link) (string, error) {
 	judge := s.judge
 	s.judge = nil
 	if err := judge(got.text); isRefusal(err) {
+		s.log().Info("truetime: refused", "address", s.address, "refusal", err)
 		return "", err
 	} else if err != nil {
 		return "", s.fail(err)
@@ -525,7 +581,8 @@ func (s *Session) await(ctx context.Context, link *link) (reply, error) {
 
 // fail gives the connection up, and all that belongs to it.
 func (s *Session) fail(err error) *BrokenError {
-	if link := s.link.Swap(nil); link != nil {
+	link := s.link.Swap(nil)
+	if link != nil {
 		link.close()
 	}
 	broken := &BrokenError{Err: err, LostLease: s.hasLease}
@@ -535,6 +592,8 @@ func (s *Session) fail(err error) *BrokenError {
 	s.judge, s.last, s.hasLease = nil, commit{}, false
 	if s.ended(context.Background()) != nil {
 		broken.Err = net.ErrClosed
+	} else if link != nil {
+		s.log().Warn("truetime: the connection failed", "address", s.address, "err", broken.Err)
 	}
 	return broken
 }

@@ -18,17 +18,17 @@ import (
 type model struct {
 	began       time.Time
 	chance      *rand.Rand
-	last, stamp uint64
+	last, stamp int64
 	isReleased  bool
-	greatest    uint64 // of all timestamps
+	greatest    int64 // of all timestamps
 }
 
 const width = 600
 
-func (m *model) now() uint64 { return width + uint64(time.Since(m.began).Microseconds()) }
+func (m *model) now() int64 { return width + int64(time.Since(m.began).Microseconds()) }
 
 func (m *model) reply(line string) string {
-	var a, b uint64
+	var a, b int64
 	word, _, _ := strings.Cut(line, " ")
 	fmt.Sscanf(line, word+" %d %d", &a, &b)
 	now := m.now()
@@ -58,7 +58,7 @@ func (m *model) reply(line string) string {
 	return fmt.Sprintf("%s %d %d", map[bool]string{true: "committed", false: "waiting"}[m.isReleased], a, m.stamp)
 }
 
-func greatest(numbers ...uint64) (most uint64) {
+func greatest(numbers ...int64) (most int64) {
 	for _, number := range numbers {
 		if number > most {
 			most = number
@@ -158,7 +158,7 @@ func (c *chanceCaller) look(turn int) {
 		}
 	case 1:
 		want := c.chance.Intn(2) == 0
-		is, err := c.session.After(ctx, map[bool]uint64{true: 0, false: MaxTime}[want])
+		is, err := c.session.After(ctx, map[bool]int64{true: 0, false: MaxTime}[want])
 		if c.is(err) && is != want {
 			c.t.Error(is)
 		}
@@ -169,7 +169,7 @@ func (c *chanceCaller) look(turn int) {
 			c.t.Error(reply, "to", line)
 		}
 	case 3:
-		c.is(c.session.Lease(ctx, uint64(turn), MaxTime))
+		c.is(c.session.Lease(ctx, int64(turn), MaxTime))
 	}
 }
 

@@ -5,8 +5,8 @@ package truetime
 import "testing"
 
 func TestUnsupported(t *testing.T) {
-	for _, open := range []func(string, uint32) (*Client, error){Open, OpenUnmapped} {
-		if client, err := open("/run/truetime/time", 0); client != nil || err != ErrUnsupported {
+	for _, open := range []func(string, string) (*Client, error){Open, OpenUnmapped} {
+		if client, err := open("/run/truetime/time", "0"); client != nil || err != ErrUnsupported {
 			t.Error(client, err)
 		}
 	}

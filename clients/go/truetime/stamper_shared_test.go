@@ -14,9 +14,9 @@ import (
 const far = 500_000_000_000_000_000
 
 // publishNow publishes this interval as that of this moment, in life 70 + count, and overdue.
-func (p *page) publishNow(count, lo, hi, usableUntil uint64) {
+func (p *page) publishNow(count uint64, lo, hi int64, usableUntil uint64) {
 	clock := uint64(systemNanotime())
-	p.publish(count, Publication{Clock: clock, Lo: lo, Hi: hi, ValidUntil: clock, UsableUntil: usableUntil, Epoch: 70 + count, Number: 9})
+	p.publish(count, Publication{Clock: clock, Lo: uint64(lo), Hi: uint64(hi), ValidUntil: clock, UsableUntil: usableUntil, Epoch: 70 + count, Number: 9})
 }
 
 // stamperOn gives a stamper by a page with this interval, and a lease.
@@ -29,7 +29,7 @@ func stamperOn(t *testing.T, words *page, lease Lease) *Stamper {
 	return stamper
 }
 
-func wantTimestamp(t *testing.T, stamper *Stamper, floor, want uint64, reason error) {
+func wantTimestamp(t *testing.T, stamper *Stamper, floor, want int64, reason error) {
 	t.Helper()
 	given, err := stamper.Stamp(floor)
 	if given.Timestamp != want || err != reason || (err != nil && given.Interval != allTimes) {
@@ -45,7 +45,7 @@ func TestStampsOfLease(t *testing.T) {
 	// After a refusal nothing is used up.
 	wantTimestamp(t, stamper, far+2, 0, FloorTooFar)
 	wantTimestamp(t, stamper, 3_000, far+1, nil)
-	wantTimestamp(t, stamper, 1<<64-1, 0, FloorTooFar)
+	wantTimestamp(t, stamper, 1<<63-1, 0, FloorTooFar)
 	wantTimestamp(t, stamper, 0, far+2, nil)
 	wantTimestamp(t, stamper, 0, 0, LeaseOver)
 	wantTimestamp(t, stamper, far, 0, FloorTooFar)
@@ -60,7 +60,7 @@ func TestStampsAtEndOfTime(t *testing.T) {
 	wantTimestamp(t, stamper, 0, MaxTime, nil)
 	wantTimestamp(t, stamper, 0, 0, UsedUp)
 	wantTimestamp(t, stamper, MaxTime+MaxAhead+1, 0, FloorTooFar)
-	for stamp, want := range map[uint64]bool{0: true, MaxTime - 1: true, MaxTime: false, 1<<64 - 1: false} {
+	for stamp, want := range map[int64]bool{0: true, MaxTime - 1: true, MaxTime: false, 1<<63 - 1: false} {
 		if is, err := stamper.IsPast(stamp); is != want || err != nil {
 			t.Error(stamp, is, err)
 		}
@@ -72,7 +72,7 @@ func TestOnlyEarliestHasPassed(t *testing.T) {
 	cancelled, cancel := context.WithCancel(always)
 	cancel()
 	for _, try := range []struct {
-		lo, stamp uint64
+		lo, stamp int64
 		want      bool
 	}{{1_000, 999, true}, {1_000, far, false}, {MaxTime, MaxTime - 1, true}, {MaxTime, MaxTime, false}} {
 		words.publishNow(1, try.lo, MaxTime, noLimit)
@@ -106,13 +106,14 @@ func TestReadingsOfStamps(t *testing.T) {
 func TestReadingRefusesFirst(t *testing.T) {
 	var words page
 	stamper := stamperOn(t, &words, Lease{far, far})
-	wantTimestamp(t, stamper, 1<<64-1, 0, Nothing)
+	wantTimestamp(t, stamper, 1<<63-1, 0, Nothing)
 	for count, try := range []struct {
-		lo, hi, usableUntil uint64
-		want                error
+		lo, hi      int64
+		usableUntil uint64
+		want        error
 	}{{1_000, 2_000, 1, TooWide}, {1_000, 2_000, 0, Nothing}, {2_000, 1_000, noLimit, NoSlot}} {
 		words.publishNow(uint64(count)+1, try.lo, try.hi, try.usableUntil)
-		wantTimestamp(t, stamper, 1<<64-1, 0, try.want)
+		wantTimestamp(t, stamper, 1<<63-1, 0, try.want)
 		if is, err := stamper.IsPast(0); is || err != try.want {
 			t.Error(is, err)
 		}
@@ -137,12 +138,12 @@ func TestWaitPast(t *testing.T) {
 	// The end of the context, before and in a sleep.
 	cancelledAlready, cancel := context.WithCancel(always)
 	cancel()
-	if is, err := stamper.WaitPast(cancelledAlready, 1<<64-1); is || err != context.Canceled {
+	if is, err := stamper.WaitPast(cancelledAlready, 1<<63-1); is || err != context.Canceled {
 		t.Error(is, err)
 	}
 	short, cancel := context.WithTimeout(always, 10*time.Millisecond)
 	defer cancel()
-	if is, err := stamper.WaitPast(short, 1<<64-1); is || err != context.DeadlineExceeded {
+	if is, err := stamper.WaitPast(short, 1<<63-1); is || err != context.DeadlineExceeded {
 		t.Error(is, err)
 	}
 	// The time of the timestamp, after two sleeps.
@@ -229,7 +230,7 @@ func inGoroutines(call func(goroutine int)) {
 // An asked is a timestamp, and the floor that it was asked with.
 type asked struct {
 	Stamp
-	floor uint64
+	floor int64
 }
 
 // TestStampsOfGoroutines has each timestamp be the least that could follow those below it.
@@ -240,10 +241,10 @@ func TestStampsOfGoroutines(t *testing.T) {
 	var given [8][]asked
 	inGoroutines(func(goroutine int) {
 		for turn := 0; turn < 5_000; turn++ {
-			floor := uint64(0)
+			floor := int64(0)
 			switch {
 			case turn%11 == 0:
-				floor = 1<<64 - 1
+				floor = 1<<63 - 1
 			case turn%7 == 0:
 				now, _ := stamper.client.Now()
 				floor = now.Latest + 1_000_000
@@ -269,7 +270,7 @@ func TestStampsOfGoroutines(t *testing.T) {
 		t.Error(len(all))
 	}
 	sort.Slice(all, func(i, j int) bool { return all[i].Timestamp < all[j].Timestamp })
-	free := uint64(0)
+	free := int64(0)
 	for _, one := range all {
 		if least := greatest(one.Latest, one.floor, free); one.Timestamp != least {
 			t.Error(one, least)
@@ -284,7 +285,7 @@ func TestGoroutinesUseUpLease(t *testing.T) {
 	var words page
 	words.publishNow(1, 1_000, 2_000, noLimit)
 	stamper := stamperOn(t, &words, Lease{far, far + number - 1})
-	var given [8][]uint64
+	var given [8][]int64
 	inGoroutines(func(goroutine int) {
 		stamp, err := stamper.Stamp(0)
 		for ; err == nil; stamp, err = stamper.Stamp(0) {
@@ -294,13 +295,13 @@ func TestGoroutinesUseUpLease(t *testing.T) {
 			t.Error(err)
 		}
 	})
-	var all []uint64
+	var all []int64
 	for _, of := range given {
 		all = append(all, of...)
 	}
 	sort.Slice(all, func(i, j int) bool { return all[i] < all[j] })
 	for place, stamp := range all {
-		if stamp != far+uint64(place) {
+		if stamp != far+int64(place) {
 			t.Fatal(place, stamp)
 		}
 	}
@@ -329,6 +330,6 @@ func BenchmarkStamp(b *testing.B) {
 		if err != nil {
 			b.Fatal(err)
 		}
-		sum += given.Timestamp
+		sum += uint64(given.Timestamp)
 	}
 }

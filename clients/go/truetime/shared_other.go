@@ -6,10 +6,10 @@ package truetime
 type Client struct{ _ int }
 
 // Open fails with ErrUnsupported on this system.
-func Open(path string, owner uint32) (*Client, error) { return nil, ErrUnsupported }
+func Open(path, owner string) (*Client, error) { return nil, ErrUnsupported }
 
 // OpenUnmapped fails with ErrUnsupported on this system.
-func OpenUnmapped(path string, owner uint32) (*Client, error) { return nil, ErrUnsupported }
+func OpenUnmapped(path, owner string) (*Client, error) { return nil, ErrUnsupported }
 
 // Close does nothing on this system.
 func (c *Client) Close() error { return nil }

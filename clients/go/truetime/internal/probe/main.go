@@ -6,6 +6,7 @@ import (
 	"context"
 	"errors"
 	"fmt"
+	"math"
 	"os"
 	"runtime"
 	"strconv"
@@ -13,7 +14,7 @@ import (
 	"sync"
 	"time"
 
-	truetime "example.org/truetime/clients/go"
+	"example.org/truetime/clients/go/truetime"
 )
 
 func main() {
@@ -23,7 +24,7 @@ func main() {
 	case len(words) == 1 && words[0] == "vectors":
 		tryVectors(lines)
 	case len(words) == 2 && words[0] == "open":
-		client, err := truetime.Open(words[1], uint32(os.Geteuid()))
+		client, err := truetime.Open(words[1], strconv.Itoa(os.Geteuid()))
 		fmt.Println(published(client, err))
 	case len(words) == 1 && words[0] == "files":
 		tryFiles(lines)
@@ -31,10 +32,12 @@ func main() {
 		trySessions(lines)
 	case len(words) == 1 && words[0] == "stamper":
 		tryStampers(lines)
+	case len(words) == 1 && words[0] == "pool":
+		tryPools(lines)
 	case len(words) == 1 && words[0] == "openings":
 		tryOpenings(lines)
 	default:
-		fmt.Fprintln(os.Stderr, "usage: probe vectors | probe open PATH | probe files | probe session | probe stamper | probe openings")
+		fmt.Fprintln(os.Stderr, "usage: probe vectors | probe open PATH | probe files | probe session | probe stamper | probe pool | probe openings")
 		os.Exit(2)
 	}
 }
@@ -49,7 +52,7 @@ func tryVectors(lines *bufio.Scanner) {
 		reading, err := publication.At(n[5])
 		fresh, yes := map[bool]string{true: "fresh", false: "stale"}, map[bool]string{true: "yes", false: "no"}
 		fmt.Fprintln(out, said(fmt.Sprintln(reading.Earliest, reading.Latest, reading.Epoch, reading.Number, fresh[reading.Fresh],
-			yes[reading.After(n[9])], yes[reading.Before(n[9])]), err))
+			yes[reading.After(signed(n[9]))], yes[reading.Before(signed(n[9]))]), err))
 	}
 }
 
@@ -70,7 +73,7 @@ func tryFiles(lines *bufio.Scanner) {
 			if client != nil {
 				client.Close()
 			}
-			client, err = truetime.OpenUnmapped(path, uint32(os.Geteuid()))
+			client, err = truetime.OpenUnmapped(path, strconv.Itoa(os.Geteuid()))
 		}
 		fmt.Println(published(client, err))
 	}
@@ -125,10 +128,10 @@ func call(session *truetime.Session, name, rest string, timeout time.Duration) (
 		return fmt.Sprint(now.Earliest, now.Latest), err
 	case "lease":
 		ends := strings.Split(rest, " ")
-		return "leased " + rest, session.Lease(ctx, number(ends[0]), number(ends[1]))
+		return "leased " + rest, session.Lease(ctx, signed(number(ends[0])), signed(number(ends[1])))
 	case "after", "before":
-		compare := map[string]func(context.Context, uint64) (bool, error){"after": session.After, "before": session.Before}[name]
-		is, err := compare(ctx, number(rest))
+		compare := map[string]func(context.Context, int64) (bool, error){"after": session.After, "before": session.Before}[name]
+		is, err := compare(ctx, signed(number(rest)))
 		if is && err != nil {
 			return "", errors.New("an error with a yes")
 		}
@@ -137,20 +140,20 @@ func call(session *truetime.Session, name, rest string, timeout time.Duration) (
 	// Where the time is over, the session goes on.
 	ctx, cancel := context.WithTimeout(ctx, timeout)
 	defer cancel()
-	var stamp uint64
+	var stamp int64
 	var err error
 	switch name {
 	case "begin":
-		stamp, _, err = session.Begin(context.Background(), number(rest))
+		stamp, _, err = session.Begin(context.Background(), signed(number(rest)))
 	case "wait":
 		stamp, err = session.Wait(ctx)
 	case "commit":
-		stamp, err = session.Commit(ctx, number(rest))
+		stamp, err = session.Commit(ctx, signed(number(rest)))
 	}
 	if stamp != 0 && err != nil {
 		return "", errors.New("an error with a timestamp")
 	}
-	return strconv.FormatUint(stamp, 10), err
+	return strconv.FormatInt(stamp, 10), err
 }
 
 func tryStampers(lines *bufio.Scanner) {
@@ -164,11 +167,11 @@ func tryStampers(lines *bufio.Scanner) {
 		case "open":
 			words := strings.Split(rest, " ")
 			var err error
-			stamper, err = openStamper(words[0], truetime.Lease{Lo: number(words[1]), Hi: number(words[2])})
+			stamper, err = openStamper(words[0], truetime.Lease{Lo: signed(number(words[1])), Hi: signed(number(words[2]))})
 			fmt.Fprintln(out, said("open", err))
 		case "threads":
 			n := numbers(rest)
-			stampInGoroutines(out, stamper, int(n[0]), int(n[1]), n[2])
+			stampInGoroutines(out, stamper, int(n[0]), int(n[1]), signed(n[2]))
 		default:
 			fmt.Fprintln(out, said(callStamper(stamper, name, numbers(rest))))
 		}
@@ -178,22 +181,22 @@ func tryStampers(lines *bufio.Scanner) {
 
 // row gives the timestamp behind the last one, 0 where none was given, by a reading.
 func row(n []uint64) (string, error) {
-	last, latest, floor, lease := n[0], n[2], n[3], truetime.Lease{Lo: n[4], Hi: n[5]}
+	last, latest, floor, lease := signed(n[0]), signed(n[2]), signed(n[3]), truetime.Lease{Lo: signed(n[4]), Hi: signed(n[5])}
 	if _, err := truetime.NewStamperWithLease(nil, lease); err != nil {
 		return "", err
 	}
-	if 0 < last && last < 1<<64-1 {
+	if 0 < last && last < math.MaxInt64 {
 		last++
 	}
 	stamp, err := lease.StampOf(last, latest, floor)
 	if stamp != 0 && err != nil {
 		return "", errors.New("an error with a timestamp")
 	}
-	return "stamp " + strconv.FormatUint(stamp, 10), err
+	return "stamp " + strconv.FormatInt(stamp, 10), err
 }
 
 func openStamper(path string, lease truetime.Lease) (*truetime.Stamper, error) {
-	client, err := truetime.Open(path, uint32(os.Geteuid()))
+	client, err := truetime.Open(path, strconv.Itoa(os.Geteuid()))
 	if err != nil {
 		return nil, err
 	}
@@ -206,13 +209,13 @@ func callStamper(stamper *truetime.Stamper, name string, n []uint64) (string, er
 	var err error
 	switch name {
 	case "stamp":
-		return stampText(stamper.Stamp(n[0]))
+		return stampText(stamper.Stamp(signed(n[0])))
 	case "past":
-		is, err = stamper.IsPast(n[0])
+		is, err = stamper.IsPast(signed(n[0]))
 	case "wait":
 		ctx, cancel := context.WithTimeout(context.Background(), time.Duration(n[1])*time.Millisecond)
 		defer cancel()
-		is, err = stamper.WaitPast(ctx, n[0])
+		is, err = stamper.WaitPast(ctx, signed(n[0]))
 	}
 	if is && err != nil {
 		return "", errors.New("an error with a yes")
@@ -234,7 +237,7 @@ func stampText(given truetime.Stamp, err error) (string, error) {
 
 // stampInGoroutines says the timestamps of so many goroutines, which begin together; the lines of each one behind those of
 // the last.
-func stampInGoroutines(out *bufio.Writer, stamper *truetime.Stamper, goroutines, each int, floor uint64) {
+func stampInGoroutines(out *bufio.Writer, stamper *truetime.Stamper, goroutines, each int, floor int64) {
 	begin, texts := make(chan struct{}), make([][]string, goroutines)
 	var all sync.WaitGroup
 	for number := range texts {
@@ -261,6 +264,89 @@ func stampInGoroutines(out *bufio.Writer, stamper *truetime.Stamper, goroutines,
 	fmt.Fprintln(out, "end")
 }
 
+// A pooled is a pool, and what is out of it.
+type pooled struct {
+	*truetime.Pool
+	timeout time.Duration
+	out     []*truetime.Session
+}
+
+func openPool(words []string) *pooled {
+	timeout := time.Duration(number(words[3])) * time.Millisecond
+	return &pooled{timeout: timeout, Pool: truetime.NewPool(int(number(words[2])), func(context.Context) (*truetime.Session, error) {
+		return dial(words[0], words[1], timeout)
+	})}
+}
+
+func (p *pooled) hold() (string, error) {
+	ctx, cancel := context.WithTimeout(context.Background(), p.timeout)
+	defer cancel()
+	session, err := p.Get(ctx)
+	if err == nil {
+		p.out = append(p.out, session)
+	}
+	return "held", err
+}
+
+func (p *pooled) commits(goroutines, each int) string {
+	var all sync.WaitGroup
+	var mutex sync.Mutex
+	stamps, different, errs := 0, map[int64]bool{}, 0
+	for goroutine := 0; goroutine < goroutines; goroutine++ {
+		all.Add(1)
+		go func() {
+			defer all.Done()
+			for turn := 0; turn < each; turn++ {
+				ctx, cancel := context.WithTimeout(context.Background(), p.timeout)
+				stamp, err := p.Commit(ctx, 0)
+				cancel()
+				mutex.Lock()
+				if err != nil {
+					errs++
+				} else {
+					stamps++
+					different[stamp] = true
+				}
+				mutex.Unlock()
+			}
+		}()
+	}
+	all.Wait()
+	return fmt.Sprintf("%d stamps, %d different, %d errors", stamps, len(different), errs)
+}
+
+func (p *pooled) call(words []string) (string, error) {
+	switch words[0] {
+	case "commits":
+		return p.commits(int(number(words[1])), int(number(words[2]))), nil
+	case "hold":
+		return p.hold()
+	case "begin":
+		stamp, _, err := p.out[len(p.out)-1].Begin(context.Background(), 0)
+		return strconv.FormatInt(stamp, 10), err
+	case "free":
+		for _, session := range p.out {
+			p.Put(session)
+		}
+		p.out = nil
+		return "freed", nil
+	}
+	return "closed", p.Close()
+}
+
+func tryPools(lines *bufio.Scanner) {
+	var pool *pooled
+	for lines.Scan() {
+		words := strings.Fields(lines.Text())
+		if words[0] == "open" {
+			pool = openPool(words[1:])
+			fmt.Println("open")
+			continue
+		}
+		fmt.Println(said(pool.call(words)))
+	}
+}
+
 const questions = 3
 
 // An opening is a reader, one with a stamper, or a session: how to ask it the time, and how to close it.
@@ -270,10 +356,10 @@ type opening struct {
 }
 
 func openOne(kind, where string, timeout time.Duration) (opening, error) {
-	owner := uint32(os.Geteuid())
+	owner := strconv.Itoa(os.Geteuid())
 	switch kind {
 	case "mapped", "stamper", "unmapped":
-		open := map[bool]func(string, uint32) (*truetime.Client, error){true: truetime.OpenUnmapped, false: truetime.Open}[kind == "unmapped"]
+		open := map[bool]func(string, string) (*truetime.Client, error){true: truetime.OpenUnmapped, false: truetime.Open}[kind == "unmapped"]
 		client, err := open(where, owner)
 		if err != nil {
 			return opening{}, err
@@ -342,6 +428,14 @@ func numbers(line string) (n []uint64) {
 	return n
 }
 
+// signed is a number, or the greatest that an int64 has: all that are above are above the greatest time.
+func signed(n uint64) int64 {
+	if n > math.MaxInt64 {
+		return math.MaxInt64
+	}
+	return int64(n)
+}
+
 func number(text string) uint64 {
 	value, err := strconv.ParseUint(text, 10, 64)
 	if err != nil {
@@ -368,6 +462,8 @@ func said(text string, err error) string {
 		return "timed out"
 	case errors.Is(err, truetime.ErrNoCommit), errors.Is(err, truetime.ErrBadLine):
 		return "invalid"
+	case errors.Is(err, truetime.ErrPoolClosed):
+		return "failed"
 	}
 	var failed interface{ Timeout() bool }
 	if errors.As(err, &failed) { // of Dial

@@ -8,14 +8,15 @@ import (
 	"fmt"
 	"log"
 	"os"
+	"strconv"
 	"time"
 
-	truetime "example.org/truetime/clients/go"
+	"example.org/truetime/clients/go/truetime"
 )
 
 // shareTime writes the file of a daemon that published once, as the clock of the host began, in place of
 // "/run/truetime/time": an interval of a microsecond, and no drift.
-func shareTime() (path string, owner uint32) {
+func shareTime() (path, owner string) {
 	boot, err := os.ReadFile("/proc/sys/kernel/random/boot_id")
 	if err != nil {
 		log.Fatal(err)
@@ -37,12 +38,12 @@ func shareTime() (path string, owner uint32) {
 	if _, err := out.Write(file); err != nil {
 		log.Fatal(err)
 	}
-	return out.Name(), uint32(os.Geteuid())
+	return out.Name(), strconv.Itoa(os.Geteuid())
 }
 
 // The time from the shared file.
 func ExampleOpen() {
-	path, owner := shareTime() // in place of "/run/truetime/time", and 0 where root runs the daemon
+	path, owner := shareTime() // in place of "/run/truetime/time" and "truetime"
 	defer os.Remove(path)
 	client, err := truetime.Open(path, owner)
 	if err != nil {

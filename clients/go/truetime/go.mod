@@ -1,0 +1,3 @@
+module example.org/truetime/clients/go/truetime
+
+go 1.19
