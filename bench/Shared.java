@@ -1,3 +1,4 @@
+import io.truetime.TrueTime;
 import java.nio.file.Path;
 
 /**

@@ -9,6 +9,7 @@ The readers run beside writers for 10 seconds, or as many as --seconds says. A l
 that says so. Everything is built in a temporary folder.
 """
 import contextlib
+import glob
 import os
 import random
 import re
@@ -476,6 +477,11 @@ def is_here(program, what):
     return shutil.which(program) is not None
 
 
+def java_sources():
+    """What Java's package has, with its tests."""
+    return sorted(glob.glob(os.path.join(CLIENTS, "java/src/*/java/io/truetime/*.java")))
+
+
 def probes(room):
     """The probe of each language, as the words that start it."""
     source = os.path.join(CLIENTS, "c", "test", "probe.c")
@@ -495,10 +501,8 @@ def probes(room):
         subprocess.run(["rustc", *flags, f"{rust}/examples/probe.rs", "--extern", f"truetime={room}/libtruetime.rlib", "-o", made], check=True)
         yield "Rust", [made]
     if is_here("javac", "Java"):
-        java = os.path.join(CLIENTS, "java")
-        sources = [f"{java}/{name}.java" for name in ("TrueTime", "Stamper", "Session", "test/Probe")]
-        subprocess.run(["javac", "-Xlint:all", "-Werror", "-d", room, *sources], check=True)
-        yield "Java", ["java", "-Xshare:auto", "-cp", room, "Probe"]
+        subprocess.run(["javac", "-Xlint:all", "-Werror", "-d", room, *java_sources()], check=True)
+        yield "Java", ["java", "-Xshare:auto", "-cp", room, "io.truetime.Probe"]
     if has_go():
         made = os.path.join(room, "probe-go")
         subprocess.run(["go", "build", "-o", made, "./internal/probe"], cwd=GO, env=go_in(room), check=True)

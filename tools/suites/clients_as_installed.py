@@ -168,7 +168,7 @@ MEANT = [
     ("clients/c/truetime.h", r"\bTT_TRIES = (\d+)", "1000"),
     ("clients/python/truetime/readers.py", r"^_TRIES = (\d+)$", "1000"),
     ("clients/rust/src/lib.rs", r"^const TRIES: usize = (\d+);", "1000"),
-    ("clients/java/TrueTime.java", r" TRIES = (\d+);", "1000"),
+    ("clients/java/src/main/java/io/truetime/TrueTime.java", r" TRIES = (\d+);", "1000"),
     ("clients/go/truetime/shared.go", r"^\ttries += (\d+)$", "1000"),
     ("clients/rust/Cargo.toml", r'^rust-version = "(.*)"$', "1.73"), ("clients/README.md", r"`clients/rust`, Rust (\S+) or later", "1.73"),
     ("clients/python/pyproject.toml", r'^requires-python = ">=(.*)"$', "3.9"), ("clients/README.md", r"`pip install .*, Python (\S+) or later", "3.9"),
@@ -208,8 +208,8 @@ def words_of_refusals():
     comments = [pair for name in ("truetime.h", "truetime_stamper.h") for pair in pairs(f"c/{name}", r"^    TT_\w+ = (\d+),? +/\* (.*?) \*/")]
     yield "C", [(int(number), text) for number, text in comments + pairs("c/truetime_errors.h", r'case (\d+): return "(.*)";')]
     yield "Python", [(int(number), text) for number, text in pairs("python/truetime/refusals.py", r'^    (\d+): "(.*)",$')]
-    yield "Rust", [(int(number), text) for number, text in pairs("rust/src/lib.rs", r'^        (\d+) => "(.*)",$')]
-    yield "Java", [(int(number), text) for number, text in pairs("java/TrueTime.java", r'Map\.entry\((\d+), "(.*?)"\)')]
+    yield "Rust", [(int(number), text) for number, text in pairs("rust/src/error.rs", r'^    \w+ = (\d+) => "(.*)",$')]
+    yield "Java", [(int(number), text) for number, text in pairs("java/src/main/java/io/truetime/TrueTime.java", r'Map\.entry\((\d+), "(.*?)"\)')]
     numbers = dict(pairs("go/truetime/errors.go", r"^\t(\w+) +(?:Refusal )?= (\d+) +//"))
     yield "Go", [(int(numbers[name]), text) for name, text in pairs("go/truetime/errors.go", r'^\t(\w+): +"(.*)",$')]
 
@@ -366,20 +366,18 @@ def java(trial):
         pom = ElementTree.parse(f"{clients}/java/pom.xml").getroot()
         said = [pom.findtext(f"{POM}{name}") for name in ("modelVersion", "artifactId", "version", "packaging")]
         trial.equal("pom.xml", said, ["4.0.0", "truetime", VERSION, "jar"])
-        source = pom.findtext(f"{POM}build/{POM}sourceDirectory", "").replace("${project.basedir}", f"{clients}/java")
-        sources = sorted(path for each in pom.iter(f"{POM}include") for path in glob.glob(os.path.join(source, each.text)))
-        trial.equal("sources", sources, sorted(glob.glob(f"{clients}/java/*.java")))
+        sources = sorted(glob.glob(f"{clients}/java/src/main/java/**/*.java", recursive=True))
         release = pom.findtext(f"{POM}properties/{POM}maven.compiler.release", "")
         compiler, jar = ["javac", *(f"-J{word}" for word in SMALL), "--release", release, "-Xlint:all", "-Werror"], f"{room}/truetime-{VERSION}.jar"
         succeeds(trial, "javac", [*compiler, "-d", f"{room}/classes", *sources])
         succeeds(trial, "jar", ["jar", *(f"-J{word}" for word in SMALL), "--create", "--file", jar, "-C", f"{room}/classes", "."])
         examples = examples_in("clients/README.md", "Java")
         for number, example in enumerate(examples):
-            text = ("import java.net.*;\nimport java.nio.file.*;\nimport java.time.*;\n\n"
+            text = ("package com.acme.app;\n\nimport io.truetime.*;\nimport java.net.*;\nimport java.nio.file.*;\nimport java.time.*;\n\n"
                     f"class Example{number} {{\n    public static void main(String[] words) throws Exception {{\n{example.beside(stand_in)}    }}\n}}\n")
             write(f"{room}/Example{number}.java", text.encode())
             succeeds(trial, f"javac {number}", [*compiler, "-cp", jar, "-d", room, f"{room}/Example{number}.java"])
-            try_example(trial, f"example {number}", example, stand_in, ["java", *SMALL, "-cp", f"{jar}:{room}", f"Example{number}"])
+            try_example(trial, f"example {number}", example, stand_in, ["java", *SMALL, "-cp", f"{jar}:{room}", f"com.acme.app.Example{number}"])
         if is_here(trial, "mvn", "pom.xml as Maven reads it"):
             env = {**os.environ, "MAVEN_OPTS": " ".join(SMALL)}
             succeeds(trial, "mvn", ["mvn", "-o", "-q", "-B", f"-Dmaven.repo.local={room}/m2", "validate"], cwd=f"{clients}/java", env=env)

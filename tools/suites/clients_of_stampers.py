@@ -31,7 +31,7 @@ import threading
 import time
 
 from harness.program import run
-from suites.clients import CLIENTS, MAX, NO_LIMIT, SLOT_BYTES, Reader, build_c, file_of, index_of, suite
+from suites.clients import CLIENTS, MAX, NO_LIMIT, SLOT_BYTES, Reader, build_c, file_of, index_of, java_sources, suite
 
 AHEAD, SECOND = 10_000_000_000, 1_000_000_000
 
@@ -376,9 +376,10 @@ def stampers_stress(trial):
 
 
 @suite.case(programs=("javac", "java"))
-def tests_of_java_stampers(trial):
-    """The unit tests of the stamper in Java. Those in Rust and Go run with the other tests of these."""
-    sources = [os.path.join(CLIENTS, "java", f"{name}.java") for name in ("TrueTime", "Stamper", "test/StamperTest")]
-    made = run(["javac", "-Xlint:all", "-Werror", "-d", trial.room, *sources], seconds=120)
-    told = run(["java", "-cp", trial.room, "StamperTest"], seconds=120)
-    trial.check("Java", made.status == 0 and told.status == 0, f"javac said {made.error}, and the tests {told.said}{told.error}")
+def tests_of_java(trial):
+    """The unit tests of Java, of the stamper and of what is Java's own. Those in Rust and Go run with the other tests of these."""
+    made = run(["javac", "-Xlint:all", "-Werror", "-d", trial.room, *java_sources()], seconds=120)
+    trial.check("Java", made.status == 0, f"javac said {made.error}")
+    for name in "StamperTest", "ClientTest":
+        told = run(["java", "-cp", trial.room, f"io.truetime.{name}"], seconds=120)
+        trial.check(f"Java: {name}", told.status == 0, told.said + told.error)

@@ -6,9 +6,8 @@ use std::os::unix::fs::MetadataExt;
 use std::sync::Barrier;
 use std::thread;
 use std::time::{Duration, Instant};
-use truetime::session::Error;
 use truetime::stamper::{Lease, Stamp};
-use truetime::{Client, Publication, Refused, Session, Stamper};
+use truetime::{Client, Error, Pool, Pooled, Publication, Session, Stamper};
 
 fn answer_vectors() -> io::Result<()> {
     let mut out = BufWriter::new(io::stdout().lock());
@@ -25,37 +24,42 @@ fn answer_vectors() -> io::Result<()> {
                 write!(out, "{} {} {} {} {fresh} ", reading.earliest_ns, reading.latest_ns, reading.epoch, reading.number)?;
                 writeln!(out, "{} {}", yes_or_no(reading.after(t_ns)), yes_or_no(reading.before(t_ns)))?
             }
-            Err(refused) => writeln!(out, "refused {}", refused.number())?,
+            Err(error) => writeln!(out, "{}", said_of_error(&error))?,
         }
     }
     Ok(())
 }
 
-fn user() -> Result<u32, Refused> {
-    fs::metadata("/proc/self").map(|found| found.uid()).map_err(|_| Refused::NoFile)
+fn user() -> u32 {
+    fs::metadata("/proc/self").expect("this process").uid()
 }
 
-fn read_file(path: &str) -> Result<Publication, Refused> {
-    Client::open(path, user()?)?.read()
+fn read_file(path: &str) -> Result<Publication, Error> {
+    Client::open(path, user())?.read()
 }
 
-fn print_publication(read: Result<Publication, Refused>) {
+fn print_publication(read: Result<Publication, Error>) {
     match read {
         Ok(p) => println!(
             "published {} {} {} {} {} {} {} {}",
             p.clock_ns, p.lo_ns, p.hi_ns, p.valid_until_ns, p.usable_until_ns, p.epoch, p.number, p.drift_ppm
         ),
-        Err(refused) => println!("refused {}", refused.number()),
+        Err(error) => println!("{}", said_of_error(&error)),
     }
 }
 
 fn try_files() -> io::Result<()> {
-    let mut client = Err(Refused::NoFile);
+    let mut client = None;
     for line in io::stdin().lines() {
-        if let Some(path) = line?.strip_prefix("open ") {
-            client = user().and_then(|user| Client::open_unmapped(path, user));
+        let opened = match line?.strip_prefix("open ") {
+            Some(path) => Client::open_unmapped(path, user()).map(|opened| client = Some(opened)),
+            None => Ok(()),
+        };
+        if opened.is_err() {
+            client = None;
         }
-        print_publication(client.as_ref().map_err(|refused| *refused).and_then(Client::read));
+        let read = |()| client.as_ref().map_or(Err(Error::NoFile(io::ErrorKind::NotFound.into())), Client::read);
+        print_publication(opened.and_then(read));
     }
     Ok(())
 }
@@ -66,7 +70,7 @@ fn open_session(address: &str) -> Result<Session, Error> {
     let timeout = Duration::from_millis(milliseconds.parse().expect("a number"));
     match kind {
         "unix" => Session::connect_unix(place, timeout),
-        _ => Session::connect_tcp(([127, 0, 0, 1], place.parse::<u16>().expect("a port")), timeout),
+        _ => Session::connect_tcp(("127.0.0.1", place.parse().expect("a port")), timeout),
     }
 }
 
@@ -116,38 +120,39 @@ fn try_sessions() -> io::Result<()> {
 fn said_of_error(error: &Error) -> String {
     let how = |error: &io::Error| String::from(if error.kind() == io::ErrorKind::TimedOut { "timed out" } else { "failed" });
     match error {
-        Error::Refused(number) => format!("refused {number}"),
         Error::Pending(of) => format!("refused {} {} {}", error.number().unwrap_or(0), of.commit, of.stamp_ns),
         Error::Failed(error) => how(error),
         Error::Lost { error, pending, had_lease } => {
             let commit = pending.map(|of| format!(" {} {}", of.commit, of.stamp_ns)).unwrap_or_default();
             how(error) + &commit + if *had_lease { " lease" } else { "" }
         }
-        Error::NotReleased => "timed out".to_string(),
+        Error::NotReleased | Error::NoSession => "timed out".to_string(),
         Error::NoCommit | Error::BadLine => "invalid".to_string(),
+        Error::PoolClosed => "failed".to_string(),
+        _ => format!("refused {}", error.number().unwrap_or(0)),
     }
 }
 
 /// The stamp behind the last one, 0 where none was given, by the reading [_, LATEST].
-fn answer_row([last_ns, _, latest_ns, floor_ns, lo_ns, hi_ns]: [u64; 6]) -> Result<String, Refused> {
+fn answer_row([last_ns, _, latest_ns, floor_ns, lo_ns, hi_ns]: [u64; 6]) -> Result<String, Error> {
     let free_ns = if last_ns == 0 { 0 } else { last_ns.saturating_add(1) };
     Lease::new(lo_ns, hi_ns)?.stamp_of(free_ns, latest_ns, floor_ns).map(|stamp_ns| format!("stamp {stamp_ns}"))
 }
 
-fn said_of(given: Result<Stamp, Refused>) -> String {
+fn said_of(given: Result<Stamp, Error>) -> String {
     match given {
         Ok(Stamp { stamp_ns, reading }) => {
             let fresh = if reading.fresh { "fresh" } else { "stale" };
             format!("stamp {stamp_ns} {} {} {fresh} {}", reading.earliest_ns, reading.latest_ns, reading.epoch)
         }
-        Err(refused) => format!("refused {}", refused.number()),
+        Err(error) => said_of_error(&error),
     }
 }
 
 /// Stamps of so many threads, which begin together; the lines of each one behind those of the last.
 fn stamp_in_threads(stamper: &Stamper, [threads, each, floor_ns]: [u64; 3]) -> String {
     let begin = Barrier::new(threads as usize);
-    let stamp_on = || -> Vec<Result<Stamp, Refused>> {
+    let stamp_on = || -> Vec<Result<Stamp, Error>> {
         begin.wait();
         (0..each).map(|_| stamper.stamp(floor_ns)).collect()
     };
@@ -167,15 +172,15 @@ fn numbers_of<const COUNT: usize>(line: &str) -> [u64; COUNT] {
     numbers.try_into().expect("so many numbers")
 }
 
-fn open_stamper(rest: &str) -> Result<Stamper, Refused> {
+fn open_stamper(rest: &str) -> Result<Stamper, Error> {
     let words: Vec<&str> = rest.split(' ').collect();
     let [path, ends @ ..] = &words[..] else { panic!("three words") };
     let [lo_ns, hi_ns] = numbers_of(&ends.join(" "));
-    Ok(Stamper::with_lease(Client::open(path, user()?)?, Lease::new(lo_ns, hi_ns)?))
+    Ok(Stamper::with_lease(Client::open(path, user())?, Lease::new(lo_ns, hi_ns)?))
 }
 
 /// Makes a call of a stamper, and gives what it gives.
-fn call_stamper(open: &mut Option<Stamper>, name: &str, rest: &str) -> Result<String, Refused> {
+fn call_stamper(open: &mut Option<Stamper>, name: &str, rest: &str) -> Result<String, Error> {
     if name == "open" {
         *open = Some(open_stamper(rest)?);
         return Ok("open".to_string());
@@ -183,7 +188,7 @@ fn call_stamper(open: &mut Option<Stamper>, name: &str, rest: &str) -> Result<St
     if name == "row" {
         return answer_row(numbers_of(rest));
     }
-    let stamper = open.as_ref().ok_or(Refused::NoFile)?;
+    let stamper = open.as_ref().ok_or(Error::NoCommit)?;
     let yes_or_no = |answer| String::from(if answer { "yes" } else { "no" });
     match name {
         "stamp" => {
@@ -209,7 +214,59 @@ fn try_stampers() -> io::Result<()> {
         let (name, rest) = line.split_once(' ').unwrap_or((&line, ""));
         match call_stamper(&mut stamper, name, rest) {
             Ok(said) => println!("{said}"),
-            Err(refused) => println!("refused {}", refused.number()),
+            Err(error) => println!("{}", said_of_error(&error)),
+        }
+    }
+    Ok(())
+}
+
+/// So many commits in each of so many threads.
+fn commits(pool: &Pool, [threads, each]: [u64; 2]) -> String {
+    let commit_on = || -> Vec<Result<u64, Error>> { (0..each).map(|_| pool.commit(0)).collect() };
+    let given: Vec<_> = thread::scope(|scope| {
+        let running: Vec<_> = (0..threads).map(|_| scope.spawn(commit_on)).collect();
+        running.into_iter().flat_map(|thread| thread.join().expect("a thread")).collect()
+    });
+    let mut stamps: Vec<u64> = given.iter().filter_map(|one| one.as_ref().ok().copied()).collect();
+    let (all, errors) = (stamps.len(), given.len() - stamps.len());
+    stamps.sort_unstable();
+    stamps.dedup();
+    format!("{all} stamps, {} different, {errors} errors", stamps.len())
+}
+
+/// Makes a call of a pool, and gives what it gives.
+fn call_pool<'a>(pool: &'a Pool, out: &mut Vec<Pooled<'a>>, name: &str, rest: &str) -> Result<String, Error> {
+    match name {
+        "commits" => return Ok(commits(pool, numbers_of(rest))),
+        "hold" => out.push(pool.get()?),
+        "begin" => return out.last_mut().ok_or(Error::NoCommit)?.begin(0).map(|stamp| stamp.to_string()),
+        "free" => out.clear(),
+        _ => pool.close(),
+    }
+    Ok(match name {
+        "hold" => "held",
+        "free" => "freed",
+        _ => "closed",
+    }
+    .to_string())
+}
+
+fn try_pools() -> io::Result<()> {
+    let mut lines = io::stdin().lines();
+    let opening = lines.next().expect("a line")?;
+    let words: Vec<String> = opening.split(' ').map(String::from).collect();
+    let [_, kind, place, size, milliseconds] = &words[..] else { panic!("five words") };
+    let timeout = Duration::from_millis(milliseconds.parse().expect("a number"));
+    let address = format!("{kind} {place} {milliseconds}");
+    let pool = Pool::new(size.parse().expect("a number"), timeout, move || open_session(&address));
+    println!("open");
+    let mut out = Vec::new();
+    for line in lines {
+        let line = line?;
+        let (name, rest) = line.split_once(' ').unwrap_or((&line, ""));
+        match call_pool(&pool, &mut out, name, rest) {
+            Ok(said) => println!("{said}"),
+            Err(error) => println!("{}", said_of_error(&error)),
         }
     }
     Ok(())
@@ -227,9 +284,9 @@ const QUESTIONS: usize = 3;
 impl Opening {
     fn new(kind: &str, place: &str, milliseconds: &str) -> Option<Opening> {
         Some(match kind {
-            "mapped" => Opening::Reader(Client::open(place, user().ok()?).ok()?),
-            "unmapped" => Opening::Reader(Client::open_unmapped(place, user().ok()?).ok()?),
-            "stamper" => Opening::Stamper(Stamper::new(Client::open(place, user().ok()?).ok()?)),
+            "mapped" => Opening::Reader(Client::open(place, user()).ok()?),
+            "unmapped" => Opening::Reader(Client::open_unmapped(place, user()).ok()?),
+            "stamper" => Opening::Stamper(Stamper::new(Client::open(place, user()).ok()?)),
             _ => Opening::Session(open_session(&format!("{kind} {place} {milliseconds}")).ok()?),
         })
     }
@@ -280,7 +337,8 @@ fn main() -> io::Result<()> {
         ["files"] => try_files(),
         ["session"] => try_sessions(),
         ["stamper"] => try_stampers(),
+        ["pool"] => try_pools(),
         ["openings"] => try_openings(),
-        _ => panic!("usage: probe vectors | probe open PATH | probe files | probe session | probe stamper | probe openings"),
+        _ => panic!("usage: probe vectors | probe open PATH | probe files | probe session | probe stamper | probe pool | probe openings"),
     }
 }

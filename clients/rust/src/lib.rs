@@ -5,10 +5,10 @@
 //! it as often as it likes, without a lock and without waiting.
 //!
 //! ```no_run
-//! let client = truetime::Client::open("/run/truetime/time", 0)?;
+//! let client = truetime::Client::open("/run/truetime/time", "truetime")?;
 //! let now = client.now()?;
 //! println!("from {} to {} ns", now.earliest_ns, now.latest_ns);
-//! # Ok::<(), truetime::Refused>(())
+//! # Ok::<(), truetime::Error>(())
 //! ```
 //!
 //! Where an owner of the file or of its folder truncates the file, a mapped one raises SIGBUS. A client of
@@ -20,15 +20,20 @@
 #[cfg(not(all(target_os = "linux", target_endian = "little", target_pointer_width = "64")))]
 compile_error!("truetime needs Linux on a little-endian 64-bit machine");
 
+mod error;
+mod os;
+mod pool;
 pub mod session;
 pub mod stamper;
 
+pub use error::{Error, FileFault, Pending, Refused};
+pub use pool::{Pool, Pooled};
 pub use session::Session;
 pub use stamper::Stamper;
 
-use std::ffi::{c_int, c_long, c_void};
-use std::fmt;
+use std::ffi::c_void;
 use std::fs::{self, File, OpenOptions};
+use std::io;
 use std::os::fd::AsRawFd;
 use std::os::unix::fs::{FileExt, MetadataExt, OpenOptionsExt};
 use std::path::Path;
@@ -49,97 +54,42 @@ const TRIES: usize = 1000;
 const HEAD: [u64; 2] = [0x0000_0140_3253_5454, 1];
 const LOWEST_BITS: u64 = 0x0101_0101_0101_0101;
 
-/// Why there is no reading, or no stamp.
-#[derive(Clone, Copy, Debug, PartialEq, Eq)]
-pub enum Refused {
-    /// The ends of the lease are out of order.
-    LeaseBackwards,
-    /// The upper end of the lease is above the greatest time.
-    LeasePastMax,
-    /// The daemon has published nothing so far, or nothing is published any more.
-    Nothing,
-    /// The clock is below that of the publication, or above the greatest time.
-    ClockBack,
-    /// The clock gave no reading.
-    ClockFailed,
-    /// No stamp is left up to the greatest time.
-    UsedUp,
-    /// The floor is too far ahead of the latest.
-    FloorTooFar,
-    /// The least stamp is above the upper end of the lease.
-    LeaseOver,
-    /// The file cannot be opened, mapped or read.
-    NoFile,
-    /// Not such a file, or of another owner, writable by others, of another boot or another clock.
-    OtherFile,
-    /// No daemon wrote what stands there.
-    NoSlot,
-    /// Another publication came during each of the tries.
-    Busy,
-    /// The clock is past the last reading at which the publication may be used.
-    TooWide,
+/// The user who has to own a file: a name, or a number.
+#[derive(Clone, Debug, PartialEq, Eq)]
+pub enum Owner {
+    /// By name.
+    Name(String),
+    /// By number.
+    Id(u32),
 }
 
-impl Refused {
-    /// The number of the refusal.
-    pub fn number(self) -> u16 {
+impl From<&str> for Owner {
+    fn from(name: &str) -> Owner {
+        Owner::Name(name.to_string())
+    }
+}
+
+impl From<String> for Owner {
+    fn from(name: String) -> Owner {
+        Owner::Name(name)
+    }
+}
+
+impl From<u32> for Owner {
+    fn from(id: u32) -> Owner {
+        Owner::Id(id)
+    }
+}
+
+impl Owner {
+    /// The number of the user.
+    fn id(&self) -> Result<u32, Error> {
         match self {
-            Refused::LeaseBackwards => 101,
-            Refused::LeasePastMax => 102,
-            Refused::Nothing => 801,
-            Refused::ClockBack => 802,
-            Refused::ClockFailed => 803,
-            Refused::UsedUp => 901,
-            Refused::FloorTooFar => 902,
-            Refused::LeaseOver => 903,
-            Refused::NoFile => 1701,
-            Refused::OtherFile => 1702,
-            Refused::NoSlot => 1703,
-            Refused::Busy => 1704,
-            Refused::TooWide => 1708,
+            Owner::Name(name) => os::user_of(name).ok_or(Error::OtherFile(FileFault::UnknownUser)),
+            Owner::Id(id) => Ok(*id),
         }
     }
 }
-
-impl fmt::Display for Refused {
-    fn fmt(&self, out: &mut fmt::Formatter<'_>) -> fmt::Result {
-        write!(out, "refused {}: {}", self.number(), meaning_of(self.number()))
-    }
-}
-
-/// What the refusal of this number means, also one of a session.
-pub(crate) fn meaning_of(number: u16) -> &'static str {
-    match number {
-        1 => "the service is out of memory",
-        101 => "the ends of the lease are out of order",
-        102 => "the upper end of the lease is above the greatest time",
-        801 => "the daemon has published nothing so far, or nothing is published any more",
-        802 => "the clock is below that of the publication, or above the greatest time",
-        803 => "the clock gave no reading",
-        901 => "no stamp is left up to the greatest time",
-        902 => "the floor is too far ahead of the latest",
-        903 => "the least stamp is above the upper end of the lease, or the session has lost its lease: set it again",
-        1001 => "as many commits are pending as may",
-        1002 => "a commit with this id is pending or was released",
-        1003 => "another commit has this stamp",
-        1101 => "the service knows no such line",
-        1102 => "the line has more than 64 bytes",
-        1103 => "a later commit has begun in this session",
-        1104 => "the last commit is not known as released",
-        1701 => "the file cannot be opened, mapped or read",
-        1702 => "not such a file, or of another owner, writable by others, of another boot or another clock",
-        1703 => "no daemon wrote what stands there",
-        1704 => "another publication came during each of the tries",
-        1708 => "the clock is past the last reading at which the publication may be used",
-        1821 => "the floor, or the lower end of the lease, is further ahead than the machine allows",
-        1822 => "the commit is pending no more: its connection broke, or the machine ends",
-        1823 => "the machine knows that an assumption of the service is broken",
-        1824 => "the reading is wider than the machine allows",
-        _ => "see docs/FORMATS.md",
-    }
-}
-
-impl std::error::Error for Refused {}
 
 /// What is known of the true time: it lies from `earliest_ns` to `latest_ns`, both included.
 #[derive(Clone, Copy, Debug, PartialEq, Eq)]
@@ -192,12 +142,12 @@ pub struct Publication {
 impl Publication {
     /// The reading of this publication at a clock reading. Refuses with `ClockBack` and `TooWide`.
     #[inline]
-    pub fn read_at(&self, clock_ns: u64) -> Result<Reading, Refused> {
+    pub fn read_at(&self, clock_ns: u64) -> Result<Reading, Error> {
         if clock_ns < self.clock_ns || clock_ns > MAX_TIME_NS {
-            return Err(Refused::ClockBack);
+            return Err(Refused::ClockBack.into());
         }
         if clock_ns > self.usable_until_ns {
-            return Err(Refused::TooWide);
+            return Err(Refused::TooWide.into());
         }
         let elapsed = clock_ns - self.clock_ns;
         let widening = widening(self.drift_ppm, elapsed);
@@ -221,6 +171,7 @@ impl Publication {
 /// What a clock may be wrong by after `elapsed` nanoseconds, up to `MAX_TIME_NS`: rounded up, at most as many. Nothing
 /// overflows: below 2^47, some 39 hours, the product with `MAX_DRIFT_PPM` has 64 bits.
 #[inline]
+#[allow(clippy::manual_div_ceil)] // which multiplies once more
 fn widening(drift_ppm: u64, elapsed: u64) -> u64 {
     if elapsed < 1 << 47 {
         (elapsed * drift_ppm + 999_999) / 1_000_000
@@ -242,49 +193,49 @@ enum Source {
 }
 
 impl Client {
-    /// Maps the file at this path, which the user `owner` has to own. Refuses with `NoFile` and `OtherFile`.
-    pub fn open(path: impl AsRef<Path>, owner: u32) -> Result<Client, Refused> {
-        let words = Words::map(&open_file(path.as_ref(), owner)?)?;
+    /// Maps the file at this path, which the user `owner` has to own: a name or a number. Refuses with `NoFile` and `OtherFile`.
+    pub fn open(path: impl AsRef<Path>, owner: impl Into<Owner>) -> Result<Client, Error> {
+        let words = Words::map(&open_file(path.as_ref(), owner.into().id()?)?)?;
         Ok(Client { source: Source::Mapped(words) })
     }
 
     /// Opens it as `open`, and each call reads it.
-    pub fn open_unmapped(path: impl AsRef<Path>, owner: u32) -> Result<Client, Refused> {
-        let file = open_file(path.as_ref(), owner)?;
+    pub fn open_unmapped(path: impl AsRef<Path>, owner: impl Into<Owner>) -> Result<Client, Error> {
+        let file = open_file(path.as_ref(), owner.into().id()?)?;
         Ok(Client { source: Source::Unmapped(file) })
     }
 
     /// The last publication. Refuses with `Nothing`, `Busy` and `NoSlot`, then with `Nothing` where nothing is published any
     /// more, and with `NoFile` where the file is not mapped and has become shorter.
     #[inline]
-    pub fn read(&self) -> Result<Publication, Refused> {
+    pub fn read(&self) -> Result<Publication, Error> {
         for _ in 0..TRIES {
             let (index, word, again) = match &self.source {
                 Source::Mapped(words) => words.copy(),
-                Source::Unmapped(file) => copy(file).ok_or(Refused::NoFile)?,
+                Source::Unmapped(file) => copy(file).map_err(Error::NoFile)?,
             };
             if again != index {
                 continue;
             }
             if index == 0 {
-                return Err(Refused::Nothing);
+                return Err(Refused::Nothing.into());
             }
             let [echo, clock_ns, lo_ns, hi_ns, valid_until_ns, epoch, number, drift_ppm, usable_until_ns, zeros @ ..] = word;
             let published = Publication { clock_ns, lo_ns, hi_ns, valid_until_ns, usable_until_ns, epoch, number, drift_ppm };
             if echo != index || !published.is_in_range() || zeros.iter().any(|&word| word != 0) {
-                return Err(Refused::NoSlot);
+                return Err(Refused::NoSlot.into());
             }
-            return if usable_until_ns == 0 { Err(Refused::Nothing) } else { Ok(published) };
+            return if usable_until_ns == 0 { Err(Refused::Nothing.into()) } else { Ok(published) };
         }
-        Err(Refused::Busy)
+        Err(Refused::Busy.into())
     }
 
     /// The time now. Refuses as `read`, and with `ClockFailed`, `ClockBack` and `TooWide`.
     #[inline]
-    pub fn now(&self) -> Result<Reading, Refused> {
+    pub fn now(&self) -> Result<Reading, Error> {
         let published = self.read()?;
         // The clock is read after the publication, so it is not below that of the publication.
-        published.read_at(clock_ns()?)
+        published.read_at(os::clock_ns().ok_or(Refused::ClockFailed)?)
     }
 }
 
@@ -309,11 +260,11 @@ unsafe impl Send for Words {}
 unsafe impl Sync for Words {}
 
 impl Words {
-    fn map(file: &File) -> Result<Words, Refused> {
+    fn map(file: &File) -> Result<Words, Error> {
         // SAFETY: a new mapping, for reading alone, of the bytes that the file has.
-        let mapped = unsafe { mmap(ptr::null_mut(), BYTES, PROT_READ, MAP_SHARED, file.as_raw_fd(), 0) };
+        let mapped = unsafe { os::mmap(ptr::null_mut(), BYTES, os::PROT_READ, os::MAP_SHARED, file.as_raw_fd(), 0) };
         if mapped as isize == -1 {
-            return Err(Refused::NoFile);
+            return Err(Error::NoFile(io::Error::last_os_error()));
         }
         Ok(Words(mapped.cast()))
     }
@@ -336,41 +287,54 @@ impl Words {
 impl Drop for Words {
     fn drop(&mut self) {
         // SAFETY: `map` made this mapping, and nothing borrows from it any more.
-        unsafe { munmap(self.0 as *mut c_void, BYTES) };
+        unsafe { os::munmap(self.0 as *mut c_void, BYTES) };
     }
 }
 
-/// So many words of a file from this place on, before any that is read later. None where the file has not that many.
-fn words_at<const COUNT: usize>(file: &File, place: usize) -> Option<[u64; COUNT]> {
+/// So many words of a file from this place on, before any that is read later. Fails where the file has not that many.
+fn words_at<const COUNT: usize>(file: &File, place: usize) -> io::Result<[u64; COUNT]> {
     let mut bytes = [0; 8 * SLOT_WORDS];
     let bytes = &mut bytes[..8 * COUNT];
-    file.read_exact_at(bytes, 8 * place as u64).ok()?;
+    file.read_exact_at(bytes, 8 * place as u64)?;
     fence(Ordering::Acquire);
-    Some(std::array::from_fn(|word| u64::from_le_bytes(std::array::from_fn(|byte| bytes[8 * word + byte]))))
+    Ok(std::array::from_fn(|word| u64::from_le_bytes(std::array::from_fn(|byte| bytes[8 * word + byte]))))
 }
 
-fn copy(file: &File) -> Option<Copied> {
+fn copy(file: &File) -> io::Result<Copied> {
     let [index] = words_at(file, INDEX_WORD)?;
     let slot = words_at(file, slot_of(index))?;
     let [again] = words_at(file, INDEX_WORD)?;
-    Some((index, slot, again))
+    Ok((index, slot, again))
 }
 
 /// The file at this path, where it is such a file.
-fn open_file(path: &Path, owner: u32) -> Result<File, Refused> {
-    let file = OpenOptions::new().read(true).custom_flags(O_NOFOLLOW | O_NONBLOCK).open(path).map_err(|_| Refused::NoFile)?;
-    let found = file.metadata().map_err(|_| Refused::NoFile)?;
-    let is_ours = found.is_file() && found.len() == BYTES as u64 && found.uid() == owner && found.mode() & 0o022 == 0;
-    if !is_ours {
-        return Err(Refused::OtherFile);
+fn open_file(path: &Path, owner: u32) -> Result<File, Error> {
+    let opened = OpenOptions::new().read(true).custom_flags(os::O_NOFOLLOW | os::O_NONBLOCK).open(path);
+    let file = opened.map_err(Error::NoFile)?;
+    match fault_of(&file, owner).map_err(Error::NoFile)? {
+        Some(fault) => Err(Error::OtherFile(fault)),
+        None => Ok(file),
     }
-    let words: [u64; FIRST_SLOT] = words_at(&file, 0).ok_or(Refused::NoFile)?;
+}
+
+/// Which of the checks an open file does not pass.
+fn fault_of(file: &File, owner: u32) -> io::Result<Option<FileFault>> {
+    let found = file.metadata()?;
+    if !found.is_file() || found.len() != BYTES as u64 {
+        return Ok(Some(FileFault::Kind));
+    }
+    if found.uid() != owner {
+        return Ok(Some(FileFault::Owner));
+    }
+    if found.mode() & 0o022 != 0 {
+        return Ok(Some(FileFault::Writable));
+    }
+    let words: [u64; FIRST_SLOT] = words_at(file, 0)?;
     let head: Vec<u8> = words.iter().flat_map(|word| word.to_le_bytes()).collect();
-    if words[..2] == HEAD && head[60..] == [0; 4] && is_same_clock(&head[24..60]) {
-        Ok(file)
-    } else {
-        Err(Refused::OtherFile)
+    if words[..2] != HEAD || head[60..] != [0; 4] {
+        return Ok(Some(FileFault::Format));
     }
+    Ok((!is_same_clock(&head[24..60])).then_some(FileFault::Clock))
 }
 
 /// Whether `CLOCK_MONOTONIC` is here what it is to the daemon: the same boot, and no time namespace that shifts it.
@@ -379,40 +343,7 @@ fn is_same_clock(boot: &[u8]) -> bool {
     let is_shifted = match fs::read_to_string("/proc/self/timens_offsets") {
         Ok(text) => !text.lines().next().is_some_and(|line| line.split_whitespace().eq(["monotonic", "0", "0"])),
         // A kernel without time namespaces has no such file.
-        Err(error) => error.kind() != std::io::ErrorKind::NotFound,
+        Err(error) => error.kind() != io::ErrorKind::NotFound,
     };
     is_same && !is_shifted
-}
-
-/// The machine's clock in nanoseconds.
-#[inline]
-fn clock_ns() -> Result<u64, Refused> {
-    let mut now = Timespec { seconds: 0, nanoseconds: 0 };
-    // SAFETY: the call writes one timespec.
-    let status = unsafe { clock_gettime(CLOCK_MONOTONIC, &mut now) };
-    let seconds = u64::try_from(now.seconds).map_err(|_| Refused::ClockFailed)?;
-    if status != 0 {
-        return Err(Refused::ClockFailed);
-    }
-    // A clock past the greatest time shows one second more than that, which `read_at` refuses.
-    Ok(seconds.min(4_000_000_001) * 1_000_000_000 + now.nanoseconds as u64)
-}
-
-// What is needed of the C library, as Linux has it on 64-bit machines.
-const PROT_READ: c_int = 1;
-const MAP_SHARED: c_int = 1;
-const O_NONBLOCK: c_int = 0o4000;
-const O_NOFOLLOW: c_int = if cfg!(target_arch = "aarch64") { 0o100_000 } else { 0o400_000 };
-const CLOCK_MONOTONIC: c_int = 1;
-
-#[repr(C)]
-struct Timespec {
-    seconds: c_long,
-    nanoseconds: c_long,
-}
-
-extern "C" {
-    fn mmap(at: *mut c_void, length: usize, protection: c_int, flags: c_int, file: c_int, offset: i64) -> *mut c_void;
-    fn munmap(at: *mut c_void, length: usize) -> c_int;
-    fn clock_gettime(clock: c_int, out: *mut Timespec) -> c_int;
 }

@@ -3,11 +3,11 @@
 //! ```no_run
 //! use std::time::Duration;
 //!
-//! let mut session = truetime::Session::connect_tcp(([127, 0, 0, 1], 5601), Duration::from_secs(30))?;
+//! let mut session = truetime::Session::connect_tcp("127.0.0.1:5601", Duration::from_secs(30))?;
 //! let stamp_ns = session.begin(0)?; // no other commit of this machine has this timestamp
 //! // write and commit locally, under this timestamp
 //! session.wait()?; // only now may anybody be told of the commit
-//! # Ok::<(), truetime::session::Error>(())
+//! # Ok::<(), truetime::Error>(())
 //! ```
 //!
 //! If the connection fails, the call fails, and nobody knows whether a commit that was asked for was begun. The next call
@@ -15,10 +15,11 @@
 //! behind a pause, unless a commit of [`Session::begin`] is pending or a lease was set. No line is sent a second time by that:
 //! the last commit is forgotten. Nor is the lease set again: once [`Session::lease`] was called, [`Session::begin`] and
 //! [`Session::commit`] refuse with 903 as long as the connection has no lease.
-use crate::{meaning_of, MAX_TIME_NS};
+pub use crate::error::{Error, Pending};
+use crate::{os, Refused, MAX_TIME_NS};
 use std::fmt;
 use std::io::{self, ErrorKind, Read, Write};
-use std::net::{SocketAddr, TcpStream};
+use std::net::{SocketAddr, TcpStream, ToSocketAddrs};
 use std::os::unix::net::UnixStream;
 use std::path::{Path, PathBuf};
 use std::thread;
@@ -28,102 +29,56 @@ use std::time::{Duration, Instant};
 const LINE_BYTES: usize = 64;
 /// The pause before a line is sent again.
 const PAUSE: Duration = Duration::from_millis(1);
-/// The refusal of a commit whose lease was lost with its connection.
-const LEASE_LOST: u16 = 903;
-/// The refusal of a commit before the last one is released.
-const COMMIT_PENDING: u16 = 1104;
 /// The refusals that say of the first line of a commit that it was not begun. Another one may also come of the step that would
 /// have released it.
-const NOT_BEGUN: [u16; 8] = [901, 902, LEASE_LOST, 1001, 1002, 1003, COMMIT_PENDING, 1821];
+const NOT_BEGUN: [Refused; 8] = [
+    Refused::UsedUp,
+    Refused::FloorTooFar,
+    Refused::LeaseOver,
+    Refused::TooManyCommits,
+    Refused::IdUsed,
+    Refused::StampUsed,
+    Refused::CommitPending,
+    Refused::FloorAboveCap,
+];
 
-/// A commit of [`Session::begin`] that is not known as released.
-#[derive(Clone, Copy, Debug, PartialEq, Eq)]
-pub struct Pending {
-    /// Its number in the session.
-    pub commit: u64,
-    /// Its timestamp.
-    pub stamp_ns: u64,
-}
+/// How long a commit waits before an observer is told.
+pub const LONG_WAIT: Duration = Duration::from_secs(1);
 
-/// Why a call of a session has no answer.
+/// What a session meets, for an observer.
 #[derive(Debug)]
-pub enum Error {
-    /// The service refuses, by this number. The session goes on.
-    Refused(u16),
-    /// The session refuses another commit before this one is known as released, as by 1104: call [`Session::wait`].
-    Pending(Pending),
-    /// The connection failed: no reply came in time (`TimedOut`), the service ended the session (`UnexpectedEof`), or what
-    /// came is no reply (`InvalidData`). Nobody knows whether a commit that was asked for was begun. The next call connects
-    /// anew.
-    Failed(io::Error),
-    /// The connection failed, as with `Failed`, and took along what the caller has to make good.
-    Lost {
-        /// How it failed.
-        error: io::Error,
-        /// The commit that was pending. It is never known as released: begin it again, or give it up.
-        pending: Option<Pending>,
-        /// Whether the session had a lease: a new one has none until it is set again.
-        had_lease: bool,
+#[non_exhaustive]
+pub enum Event<'a> {
+    /// It connected anew.
+    ConnectedAnew,
+    /// Its connection failed, or has ended.
+    ConnectionFailed(&'a io::Error),
+    /// The service refused a line.
+    Refused(Refused),
+    /// A commit waits for more than [`LONG_WAIT`]; told once for each.
+    LongWait {
+        /// Its timestamp.
+        stamp_ns: u64,
     },
-    /// The commit is not released in time. The session goes on, and may wait again.
-    NotReleased,
-    /// No commit was begun that could be waited for, or the connection of the last one failed.
-    NoCommit,
-    /// The line has more than 64 bytes or a line feed, and was not sent.
-    BadLine,
 }
 
-impl Error {
-    /// The number of the refusal, where it is one.
-    pub fn number(&self) -> Option<u16> {
-        match self {
-            Error::Refused(number) => Some(*number),
-            Error::Pending(_) => Some(COMMIT_PENDING),
-            _ => None,
+type Tell = dyn FnMut(Event<'_>) + Send;
+
+/// Who is told of events.
+#[derive(Default)]
+struct Observer(Option<Box<Tell>>);
+
+impl Observer {
+    fn tell(&mut self, event: Event<'_>) {
+        if let Some(observer) = &mut self.0 {
+            observer(event);
         }
     }
 }
 
-impl fmt::Display for Pending {
+impl fmt::Debug for Observer {
     fn fmt(&self, out: &mut fmt::Formatter<'_>) -> fmt::Result {
-        write!(out, "commit {}, whose timestamp is {}", self.commit, self.stamp_ns)
-    }
-}
-
-impl fmt::Display for Error {
-    fn fmt(&self, out: &mut fmt::Formatter<'_>) -> fmt::Result {
-        match self {
-            Error::Refused(number) => write!(out, "refused {number}: {}", meaning_of(*number)),
-            Error::Pending(pending) => {
-                write!(out, "refused {COMMIT_PENDING}: {}: wait for {pending}", meaning_of(COMMIT_PENDING))
-            }
-            Error::Failed(error) => write!(out, "the connection failed: {error}"),
-            Error::Lost { error, pending, had_lease } => {
-                write!(out, "the connection failed: {error}")?;
-                if let Some(pending) = pending {
-                    write!(out, "; {pending}, was pending: begin it again, or give it up")?;
-                }
-                out.write_str(if *had_lease { "; the lease has to be set again" } else { "" })
-            }
-            Error::NotReleased => out.write_str("the commit is not released in time"),
-            Error::NoCommit => out.write_str("no commit was begun"),
-            Error::BadLine => out.write_str("the line is too long or has a line feed"),
-        }
-    }
-}
-
-impl std::error::Error for Error {
-    fn source(&self) -> Option<&(dyn std::error::Error + 'static)> {
-        match self {
-            Error::Failed(error) | Error::Lost { error, .. } => Some(error),
-            _ => None,
-        }
-    }
-}
-
-impl From<io::Error> for Error {
-    fn from(error: io::Error) -> Error {
-        Error::Failed(error)
+        out.write_str(if self.0.is_some() { "Observer" } else { "Nobody" })
     }
 }
 
@@ -217,7 +172,8 @@ impl Patient<'_> {
 /// Where the service is.
 #[derive(Clone, Debug)]
 enum Address {
-    Tcp(SocketAddr),
+    /// Those of a name, which are tried in turn.
+    Tcp(Vec<SocketAddr>),
     Unix(PathBuf),
 }
 
@@ -268,24 +224,35 @@ pub struct Session {
     connection: Option<Connection>,
     /// Whether a lease was ever asked for: then no commit begins without one.
     wants_lease: bool,
+    observer: Observer,
 }
 
 impl Session {
-    /// Connects to a TCP address. `timeout` is how long connecting, sending, each receiving and the waiting for a release
-    /// may take, however many signals come; it may not be zero. Connecting anew is part of the sending and receiving that
-    /// follow it.
-    pub fn connect_tcp(address: impl Into<SocketAddr>, timeout: Duration) -> Result<Session, Error> {
-        Session::connect(Address::Tcp(address.into()), timeout)
+    /// Connects to a TCP address, as `"127.0.0.1:5601"` or `("localhost", 5601)`; a name is looked up once. `timeout` is how long
+    /// connecting, sending, each receiving and the waiting for a release may take, however many signals come; it may not be zero.
+    /// Connecting anew is part of the sending and receiving that follow it.
+    pub fn connect_tcp(address: impl ToSocketAddrs, timeout: Duration) -> Result<Session, Error> {
+        Session::connect(Address::Tcp(address.to_socket_addrs()?.collect()), timeout)
     }
 
-    /// Connects to the Unix socket at this path, as `connect_tcp`; connecting itself has no time-out.
+    /// Connects to the Unix socket at this path, as `connect_tcp`.
     pub fn connect_unix(path: impl AsRef<Path>, timeout: Duration) -> Result<Session, Error> {
         Session::connect(Address::Unix(path.as_ref().to_path_buf()), timeout)
     }
 
     fn connect(address: Address, timeout: Duration) -> Result<Session, Error> {
         let connection = Some(Connection::to(&address, timeout)?);
-        Ok(Session { address, timeout, connection, wants_lease: false })
+        Ok(Session { address, timeout, connection, wants_lease: false, observer: Observer::default() })
+    }
+
+    /// Has an observer told of all that the session meets from now on, in the calls themselves; the one before is told no more.
+    pub fn observe(&mut self, observer: impl FnMut(Event<'_>) + Send + 'static) {
+        self.observer = Observer(Some(Box::new(observer)));
+    }
+
+    /// Whether it is connected, as far as can be seen, and no commit of it is pending.
+    pub(crate) fn is_idle(&mut self) -> bool {
+        self.last().state == State::Released && self.connection.as_mut().is_some_and(|connection| !connection.has_ended())
     }
 
     /// Sends one line and gives its reply, both without the line feed; `refused N` is a reply like another. Begin no commit
@@ -370,7 +337,7 @@ impl Session {
         let is_unsure = self.last().state == State::Unsure;
         self.end(began)?;
         let begun = match self.send_first(floor_ns) {
-            Err(Error::Refused(COMMIT_PENDING)) if is_unsure => {
+            Err(Error::Refused(Refused::CommitPending)) if is_unsure => {
                 if let Some(connection) = &mut self.connection {
                     connection.last.state = State::Waiting; // it began, though it was refused
                 }
@@ -394,7 +361,7 @@ impl Session {
     /// Sends the line of the last commit until it is released. One of which the service does not know is forgotten, with the
     /// connection.
     fn release(&mut self, began: Instant) -> Result<u64, Error> {
-        let mut last = self.last();
+        let (mut last, mut is_told) = (self.last(), false);
         while last.state == State::Waiting {
             last = match self.send_commit(last.number, 0) {
                 Err(error) if is_unknown(&error) => {
@@ -406,6 +373,10 @@ impl Session {
             if last.state == State::Waiting {
                 if began.elapsed() > self.timeout {
                     return Err(Error::NotReleased);
+                }
+                if began.elapsed() > LONG_WAIT && !is_told {
+                    is_told = true;
+                    self.observer.tell(Event::LongWait { stamp_ns: last.stamp_ns });
                 }
                 thread::sleep(PAUSE);
             }
@@ -426,7 +397,7 @@ impl Session {
     /// Sends the first line of the next commit.
     fn send_first(&mut self, floor_ns: u64) -> Result<Commit, Error> {
         if self.wants_lease && !self.connection.as_ref().is_some_and(|connection| connection.has_lease) {
-            return Err(Error::Refused(LEASE_LOST));
+            return Err(Refused::LeaseOver.into());
         }
         let number = self.last().number + 1;
         let sent = self.send_commit(number, floor_ns);
@@ -470,7 +441,10 @@ impl Session {
     fn question(&mut self, line: &str) -> Result<Reply, Error> {
         let reply = Reply(self.exchange(line)?);
         match reply.numbers_behind("refused").map(|[number]| u16::try_from(number)) {
-            Some(Ok(number)) if number > 0 => Err(Error::Refused(number)),
+            Some(Ok(number)) if number > 0 => {
+                self.observer.tell(Event::Refused(Refused::of(number)));
+                Err(Refused::of(number).into())
+            }
             _ => Ok(reply),
         }
     }
@@ -480,7 +454,11 @@ impl Session {
         let (timeout, deadline, is_new) = (self.timeout, Instant::now() + self.timeout, self.connection.is_none());
         let connection = match &mut self.connection {
             Some(connection) => connection,
-            none => none.insert(Connection::to(&self.address, timeout)?),
+            none => {
+                let made = Connection::to(&self.address, timeout)?;
+                self.observer.tell(Event::ConnectedAnew);
+                none.insert(made)
+            }
         };
         let mut stream = Patient { stream: &mut *connection.stream, timeout, deadline, is_shorter: false };
         let ready = if is_new { stream.shorten() } else { Ok(()) };
@@ -501,6 +479,7 @@ impl Session {
     /// Gives the connection up, and says so.
     fn lost(&mut self, error: io::Error) -> Error {
         let connection = self.connection.take();
+        self.observer.tell(Event::ConnectionFailed(&error));
         let pending = connection.as_ref().and_then(Connection::pending);
         let had_lease = connection.is_some_and(|connection| connection.has_lease);
         if pending.is_none() && !had_lease {
@@ -518,14 +497,14 @@ impl Session {
 impl Connection {
     fn to(address: &Address, timeout: Duration) -> io::Result<Connection> {
         let stream: Box<dyn Stream> = match address {
-            Address::Tcp(address) => {
-                let stream = TcpStream::connect_timeout(address, timeout)?;
+            Address::Tcp(addresses) => {
+                let stream = reach(addresses, timeout)?;
                 stream.set_nodelay(true)?;
                 stream.set_timeout(timeout)?;
                 Box::new(stream)
             }
             Address::Unix(path) => {
-                let stream = reach(path)?;
+                let stream = os::reach(path, Instant::now() + timeout)?;
                 stream.set_timeout(timeout)?;
                 Box::new(stream)
             }
@@ -567,19 +546,26 @@ fn number_of(text: &str) -> Option<u64> {
     text.parse().ok().filter(|number: &u64| *number <= MAX_TIME_NS && number.to_string() == text)
 }
 
-/// Connects to a Unix socket. What a signal interrupts was not begun.
-fn reach(path: &Path) -> io::Result<UnixStream> {
-    loop {
-        match UnixStream::connect(path) {
-            Err(error) if error.kind() == ErrorKind::Interrupted => {}
-            result => return result,
+/// Connects to one of these addresses, in turn, within the time-out.
+fn reach(addresses: &[SocketAddr], timeout: Duration) -> io::Result<TcpStream> {
+    let deadline = Instant::now() + timeout;
+    let mut failed = if addresses.is_empty() { ErrorKind::AddrNotAvailable } else { ErrorKind::TimedOut }.into();
+    for address in addresses {
+        let left = deadline.saturating_duration_since(Instant::now());
+        if left.is_zero() {
+            break;
+        }
+        match TcpStream::connect_timeout(address, left) {
+            Err(error) => failed = error,
+            reached => return reached,
         }
     }
+    Err(failed)
 }
 
 /// Whether this refusal of the line of a pending commit says that the service knows of no such one.
 fn is_unknown(error: &Error) -> bool {
-    matches!(error, Error::Refused(1103 | COMMIT_PENDING | 1822))
+    matches!(error, Error::Refused(Refused::CommitPassed | Refused::CommitPending | Refused::CommitGone))
 }
 
 fn receive(mut stream: Patient<'_>) -> io::Result<String> {

@@ -3,14 +3,14 @@
 //! ```no_run
 //! use std::time::{Duration, Instant};
 //!
-//! let client = truetime::Client::open("/run/truetime/time", 0)?;
+//! let client = truetime::Client::open("/run/truetime/time", "truetime")?;
 //! let stamper = truetime::Stamper::new(client); // one for all threads
 //! let given = stamper.stamp(0)?; // no other commit of this stamper has this timestamp
 //! // write and commit locally, under given.stamp_ns
 //! if stamper.wait_past(given.stamp_ns, Instant::now() + Duration::from_secs(30))? {
 //!     // only now may anybody be told of the commit
 //! }
-//! # Ok::<(), truetime::Refused>(())
+//! # Ok::<(), truetime::Error>(())
 //! ```
 //!
 //! A stamper does for a commit what the service does, without asking it: it takes a reading in the call, and gives the least
@@ -24,7 +24,7 @@
 //! **After a restart** a new stamper knows nothing of the stamps given before, and a floor may have put some of them ahead of
 //! the time. Stamp the first commit with a floor above the greatest stamp of the log (902 says that this is still too far
 //! ahead: wait), or open the stamper with a lease that begins above it, or a new one.
-use crate::{Client, Reading, Refused, MAX_TIME_NS};
+use crate::{Client, Error, Reading, Refused, MAX_TIME_NS};
 use std::sync::atomic::{AtomicU64, Ordering};
 use std::thread;
 use std::time::{Duration, Instant};
@@ -48,12 +48,12 @@ impl Lease {
 
     /// The lease from `lo_ns` to `hi_ns`. Refuses with `LeaseBackwards` where these are out of order, then with
     /// `LeasePastMax` where the upper one is above the greatest time.
-    pub fn new(lo_ns: u64, hi_ns: u64) -> Result<Lease, Refused> {
+    pub fn new(lo_ns: u64, hi_ns: u64) -> Result<Lease, Error> {
         if hi_ns < lo_ns {
-            return Err(Refused::LeaseBackwards);
+            return Err(Refused::LeaseBackwards.into());
         }
         if hi_ns > MAX_TIME_NS {
-            return Err(Refused::LeasePastMax);
+            return Err(Refused::LeasePastMax.into());
         }
         Ok(Lease { lo_ns, hi_ns })
     }
@@ -75,16 +75,16 @@ impl Lease {
     /// Refuses, in this order: `FloorTooFar` where the floor is more than [`MAX_AHEAD_NS`] above the latest, `UsedUp` where
     /// there is no such number, `LeaseOver` where it is above the upper end of the lease.
     #[inline]
-    pub fn stamp_of(&self, free_ns: u64, latest_ns: u64, floor_ns: u64) -> Result<u64, Refused> {
+    pub fn stamp_of(&self, free_ns: u64, latest_ns: u64, floor_ns: u64) -> Result<u64, Error> {
         if floor_ns > latest_ns.saturating_add(MAX_AHEAD_NS) {
-            return Err(Refused::FloorTooFar);
+            return Err(Refused::FloorTooFar.into());
         }
         let stamp_ns = latest_ns.max(floor_ns).max(self.lo_ns).max(free_ns);
         if stamp_ns > MAX_TIME_NS {
-            return Err(Refused::UsedUp);
+            return Err(Refused::UsedUp.into());
         }
         if stamp_ns > self.hi_ns {
-            return Err(Refused::LeaseOver);
+            return Err(Refused::LeaseOver.into());
         }
         Ok(stamp_ns)
     }
@@ -143,7 +143,7 @@ impl Stamper {
     /// makes no system call but the clock's. It has one load and one exchange, and one more exchange each time that another
     /// thread was faster.
     #[inline]
-    pub fn stamp(&self, floor_ns: u64) -> Result<Stamp, Refused> {
+    pub fn stamp(&self, floor_ns: u64) -> Result<Stamp, Error> {
         let reading = self.client.now()?;
         let mut free_ns = self.free_ns.load(Ordering::Acquire);
         loop {
@@ -158,7 +158,7 @@ impl Stamper {
     /// Whether a stamp has surely passed: it is below the earliest of a reading taken in this call. Only then may anybody be
     /// told of its commit. Refuses as [`Client::now`], and makes the system calls of that.
     #[inline]
-    pub fn is_past(&self, stamp_ns: u64) -> Result<bool, Refused> {
+    pub fn is_past(&self, stamp_ns: u64) -> Result<bool, Error> {
         Ok(self.client.now()?.after(stamp_ns))
     }
 
@@ -167,7 +167,7 @@ impl Stamper {
     /// at most 50 milliseconds at once.
     ///
     /// Refuses as [`Client::now`], at once. The stamp is as it was after that and after false: wait again.
-    pub fn wait_past(&self, stamp_ns: u64, deadline: Instant) -> Result<bool, Refused> {
+    pub fn wait_past(&self, stamp_ns: u64, deadline: Instant) -> Result<bool, Error> {
         loop {
             let reading = self.client.now()?;
             if reading.after(stamp_ns) {

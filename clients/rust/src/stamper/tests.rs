@@ -43,7 +43,7 @@ impl Shared {
 
     /// Publishes as the daemon does: the slot, and then the index. `count` is 1 or 2.
     fn publish(&self, count: u64, lo_ns: u64, hi_ns: u64, usable_until_ns: u64) {
-        let clock_ns = crate::clock_ns().expect("a clock");
+        let clock_ns = crate::os::clock_ns().expect("a clock");
         let words = [count, clock_ns, lo_ns, hi_ns, clock_ns, 70 + count, 9, 0, usable_until_ns];
         let bytes: Vec<u8> = words.iter().flat_map(|word| word.to_le_bytes()).collect();
         let file = fs::OpenOptions::new().write(true).open(self.path()).expect("the file");
@@ -72,8 +72,13 @@ fn owner(path: &Path) -> u32 {
     fs::metadata(path).expect("the file").uid()
 }
 
+/// A result with the refusal in place of the error.
+fn told<T>(result: Result<T, Error>) -> Result<T, Refused> {
+    result.map_err(|error| error.refused().expect("a refusal"))
+}
+
 fn stamp_of(stamper: &Stamper, floor_ns: u64) -> Result<u64, Refused> {
-    stamper.stamp(floor_ns).map(|given| given.stamp_ns)
+    told(stamper.stamp(floor_ns)).map(|given| given.stamp_ns)
 }
 
 #[test]
@@ -123,7 +128,7 @@ fn the_rule_by_hand() {
         (MAX, 250, 0, 0, MAX - 1, Err(LeaseOver)),
     ] {
         let lease = Lease::new(lo, hi).expect("a lease");
-        assert_eq!(lease.stamp_of(free, latest, floor), answer, "{free} {latest} {floor} {lo} {hi}");
+        assert_eq!(told(lease.stamp_of(free, latest, floor)), answer, "{free} {latest} {floor} {lo} {hi}");
     }
 }
 
@@ -136,12 +141,12 @@ fn numbers_of_refusals() {
 
 #[test]
 fn leases() {
-    let ends = |lo_ns, hi_ns| Lease::new(lo_ns, hi_ns).map(|lease| (lease.lo_ns(), lease.hi_ns()));
+    let ends = |lo_ns, hi_ns| told(Lease::new(lo_ns, hi_ns)).map(|lease| (lease.lo_ns(), lease.hi_ns()));
     assert_eq!(ends(8, 7), Err(Refused::LeaseBackwards));
     assert_eq!(ends(u64::MAX, MAX + 1), Err(Refused::LeaseBackwards));
     assert_eq!(ends(7, MAX + 1), Err(Refused::LeasePastMax));
     assert_eq!(ends(7, 7), Ok((7, 7)));
-    assert_eq!(Lease::new(0, MAX), Ok(Lease::WHOLE));
+    assert_eq!(told(Lease::new(0, MAX)), Ok(Lease::WHOLE));
     assert_eq!(Lease::default(), Lease::WHOLE);
     assert_eq!(Stamper::new(Shared::new("leases").client()).lease(), Lease::WHOLE);
 }
@@ -169,21 +174,21 @@ fn stamps_at_the_end_of_time() {
     assert_eq!(stamp_of(&stamper, 0), Ok(MAX));
     assert_eq!(stamp_of(&stamper, 0), Err(Refused::UsedUp));
     assert_eq!(stamp_of(&stamper, MAX + 10_000_000_001), Err(Refused::FloorTooFar));
-    assert_eq!(stamper.is_past(MAX - 1), Ok(true));
-    assert_eq!(stamper.is_past(MAX), Ok(false));
-    assert_eq!(stamper.is_past(u64::MAX), Ok(false));
-    assert_eq!(stamper.wait_past(MAX - 1, Instant::now()), Ok(true));
-    assert_eq!(stamper.wait_past(MAX, Instant::now()), Ok(false));
+    assert_eq!(told(stamper.is_past(MAX - 1)), Ok(true));
+    assert_eq!(told(stamper.is_past(MAX)), Ok(false));
+    assert_eq!(told(stamper.is_past(u64::MAX)), Ok(false));
+    assert_eq!(told(stamper.wait_past(MAX - 1, Instant::now())), Ok(true));
+    assert_eq!(told(stamper.wait_past(MAX, Instant::now())), Ok(false));
 }
 
 #[test]
 fn only_the_earliest_has_passed() {
     let shared = Shared::at_this_moment("wide", 1_000, MAX);
     let stamper = Stamper::new(shared.client());
-    assert_eq!(stamper.is_past(999), Ok(true));
-    assert_eq!(stamper.is_past(LO), Ok(false));
-    assert_eq!(stamper.wait_past(999, Instant::now()), Ok(true));
-    assert_eq!(stamper.wait_past(LO, Instant::now()), Ok(false));
+    assert_eq!(told(stamper.is_past(999)), Ok(true));
+    assert_eq!(told(stamper.is_past(LO)), Ok(false));
+    assert_eq!(told(stamper.wait_past(999, Instant::now())), Ok(true));
+    assert_eq!(told(stamper.wait_past(LO, Instant::now())), Ok(false));
 }
 
 #[test]
@@ -208,8 +213,8 @@ fn refusals_of_a_reading() {
     let stamper = shared.stamper(LO, LO);
     let refused = |refused| {
         assert_eq!(stamp_of(&stamper, u64::MAX), Err(refused));
-        assert_eq!(stamper.is_past(0), Err(refused));
-        assert_eq!(stamper.wait_past(0, Instant::now()), Err(refused));
+        assert_eq!(told(stamper.is_past(0)), Err(refused));
+        assert_eq!(told(stamper.wait_past(0, Instant::now())), Err(refused));
     };
     refused(Refused::Nothing);
     shared.publish(1, 1_000, 2_000, 1);
@@ -229,18 +234,18 @@ fn waits() {
     let began = Instant::now();
     let given = stamper.stamp(0).expect("a stamp");
     let ahead = stamper.stamp(given.stamp_ns + 70_000_000).expect("a stamp");
-    assert_eq!(stamper.is_past(ahead.stamp_ns), Ok(false));
+    assert_eq!(told(stamper.is_past(ahead.stamp_ns)), Ok(false));
     // The deadline, before and after a sleep.
-    assert_eq!(stamper.wait_past(given.stamp_ns + 1_000_000_000_000, began), Ok(false));
+    assert_eq!(told(stamper.wait_past(given.stamp_ns + 1_000_000_000_000, began)), Ok(false));
     let deadline = Instant::now() + Duration::from_millis(10);
-    assert_eq!(stamper.wait_past(u64::MAX, deadline), Ok(false));
+    assert_eq!(told(stamper.wait_past(u64::MAX, deadline)), Ok(false));
     assert!(Instant::now() >= deadline);
     // The time of the stamp, after two sleeps.
-    assert_eq!(stamper.wait_past(ahead.stamp_ns, began + Duration::from_secs(60)), Ok(true));
+    assert_eq!(told(stamper.wait_past(ahead.stamp_ns, began + Duration::from_secs(60))), Ok(true));
     assert!(began.elapsed() > Duration::from_millis(70) && began.elapsed() < Duration::from_secs(30));
-    assert_eq!(stamper.is_past(ahead.stamp_ns), Ok(true));
+    assert_eq!(told(stamper.is_past(ahead.stamp_ns)), Ok(true));
     // One that has passed, after the deadline.
-    assert_eq!(stamper.wait_past(ahead.stamp_ns, began), Ok(true));
+    assert_eq!(told(stamper.wait_past(ahead.stamp_ns, began)), Ok(true));
 }
 
 /// Whether a call takes less than 40 milliseconds; where the host is busy, one of 50 has to.
@@ -257,10 +262,10 @@ fn waits_no_longer() {
     let shared = Shared::at_this_moment("short", 1_000, 2_000);
     let stamper = Stamper::new(shared.client());
     let in_10_ms = || Instant::now() + Duration::from_millis(10);
-    assert!(is_short(|| assert_eq!(stamper.wait_past(LO, in_10_ms()), Ok(false))));
+    assert!(is_short(|| assert_eq!(told(stamper.wait_past(LO, in_10_ms())), Ok(false))));
     assert!(is_short(|| {
         let ahead_ns = stamper.client().now().expect("a reading").latest_ns + 10_000_000;
-        assert_eq!(stamper.wait_past(ahead_ns, Instant::now() + Duration::from_secs(60)), Ok(true));
+        assert_eq!(told(stamper.wait_past(ahead_ns, Instant::now() + Duration::from_secs(60))), Ok(true));
     }));
 }
 
@@ -273,7 +278,7 @@ fn waits_for_a_publication() {
         let waiting = scope.spawn(|| stamper.wait_past(LO, began + Duration::from_secs(60)));
         thread::sleep(Duration::from_millis(20));
         shared.publish(2, LO + 1, LO + 1, NO_LIMIT);
-        assert_eq!(waiting.join().expect("a thread"), Ok(true));
+        assert_eq!(told(waiting.join().expect("a thread")), Ok(true));
     });
     assert!(began.elapsed() < Duration::from_secs(30));
 }
@@ -308,7 +313,7 @@ fn threads_get_the_least_stamps() {
         let mut given: Vec<(Stamp, u64)> = Vec::new();
         for call in 0..5_000 {
             let floor_ns = floor_of(call + thread, stamper.client().now().expect("a reading").latest_ns);
-            match stamper.stamp(floor_ns) {
+            match told(stamper.stamp(floor_ns)) {
                 Ok(stamp) => given.push((stamp, floor_ns)),
                 Err(refused) => assert_eq!((refused, floor_ns), (Refused::FloorTooFar, u64::MAX)),
             }

@@ -1,8 +1,12 @@
+package io.truetime;
+
 import java.io.EOFException;
 import java.io.IOException;
 import java.io.InterruptedIOException;
 import java.net.SocketAddress;
+import java.net.SocketException;
 import java.net.SocketTimeoutException;
+import java.net.StandardProtocolFamily;
 import java.net.StandardSocketOptions;
 import java.net.UnixDomainSocketAddress;
 import java.nio.ByteBuffer;
@@ -28,7 +32,9 @@ import java.util.regex.Pattern;
  * }
  * }</pre>
  *
- * <p>A session has one line and its reply at a time, and is for one thread. A call throws {@link TrueTime.Refused} where the
+ * <p>A session has one line and its reply at a time; calls of several threads take turns. It has one commit at a time, so each
+ * thread that commits wants a session of its own, or one of a {@link Pool}. What sessions meet is told to the {@link
+ * System.Logger} {@code io.truetime}. A call throws {@link TrueTime.Refused} where the
  * service refuses, and an {@link IOException} where the connection fails: {@link SocketTimeoutException} where no reply came
  * in time, {@link EOFException} where the service ended the session. Nobody knows then whether a commit that was asked for
  * was begun. It is {@link Lost}, with that as its cause, where a commit of {@link #begin} was pending or a lease was set.
@@ -41,16 +47,22 @@ import java.util.regex.Pattern;
 public final class Session implements AutoCloseable {
     /** The most bytes of a line and of a reply, without the line feed. */
     private static final int LINE_BYTES = 64;
-    private static final int LEASE_LOST = 903;
-    private static final int COMMIT_PENDING = 1104;
     /** The refusals that say of the line of a pending commit that the service knows of no such one. */
-    private static final Set<Integer> NOT_PENDING = Set.of(1103, COMMIT_PENDING, 1822);
+    private static final Set<Integer> NOT_PENDING = Set.of(
+        TrueTime.Refused.COMMIT_PASSED, TrueTime.Refused.COMMIT_PENDING, TrueTime.Refused.COMMIT_GONE);
     /**
      * The refusals that say of the first line of a commit that it was not begun. Another one may also come of the step that
      * would have released it.
      */
-    private static final Set<Integer> NOT_BEGUN = Set.of(901, 902, LEASE_LOST, 1001, 1002, 1003, COMMIT_PENDING, 1821);
+    private static final Set<Integer> NOT_BEGUN = Set.of(
+        TrueTime.Refused.USED_UP, TrueTime.Refused.FLOOR_TOO_FAR, TrueTime.Refused.LEASE_OVER, TrueTime.Refused.TOO_MANY_COMMITS,
+        TrueTime.Refused.ID_USED, TrueTime.Refused.STAMP_USED, TrueTime.Refused.COMMIT_PENDING, TrueTime.Refused.FLOOR_ABOVE_CAP);
     private static final long PAUSE_MS = 1;
+    /** The pause before connecting again to a Unix socket at which as many wait as may. */
+    private static final long CONNECT_PAUSE_MS = 5;
+    /** How long a commit waits before that is told. */
+    private static final long LONG_WAIT_NS = 1_000_000_000;
+    private static final System.Logger LOGGER = System.getLogger("io.truetime");
     private static final Pattern LINE = Pattern.compile("[ -~]{0,64}");
     private static final Pattern NUMBER = Pattern.compile("0|[1-9][0-9]{0,18}");
     private static final Map<String, Integer> YES_OR_NO = Map.of("yes", 0, "no", 0);
@@ -148,8 +160,8 @@ public final class Session implements AutoCloseable {
 
     /**
      * Connects to a TCP address or a Unix socket. The time-out is how long connecting, sending, each receiving and the
-     * waiting for a release may take, at least a millisecond; connecting to a Unix socket has none. Connecting anew is part of
-     * the sending and receiving that follow it.
+     * waiting for a release may take, at least a millisecond. Connecting anew is part of the sending and receiving that follow
+     * it.
      */
     public static Session connect(SocketAddress address, Duration timeout) throws IOException {
         if (timeoutMs(timeout) <= 0) {
@@ -166,7 +178,7 @@ public final class Session implements AutoCloseable {
 
     private void connect() throws IOException {
         boolean isUnix = address instanceof UnixDomainSocketAddress;
-        SocketChannel made = isUnix ? SocketChannel.open(address) : SocketChannel.open();
+        SocketChannel made = isUnix ? reached() : SocketChannel.open();
         try {
             if (!isUnix) {
                 made.socket().connect(address, timeoutMs(timeout));
@@ -180,6 +192,46 @@ public final class Session implements AutoCloseable {
             made.close();
             drop();
             throw failed;
+        }
+    }
+
+    /** A channel that is connected to the Unix socket. Where as many wait there as may, it is tried again. */
+    private SocketChannel reached() throws IOException {
+        long giveUpNs = System.nanoTime() + timeout.toNanos();
+        while (true) {
+            SocketChannel made = SocketChannel.open(StandardProtocolFamily.UNIX);
+            try {
+                made.configureBlocking(false);
+                if (made.connect(address)) {
+                    return made;
+                }
+            } catch (SocketException failed) {
+                // The text of EAGAIN; one in another language is thrown.
+                if (!"Resource temporarily unavailable".equals(failed.getMessage())) {
+                    made.close();
+                    throw failed;
+                }
+            } catch (IOException | RuntimeException failed) {
+                made.close();
+                throw failed;
+            }
+            made.close();
+            if (System.nanoTime() - giveUpNs > 0) {
+                throw new SocketTimeoutException("no connection in time");
+            }
+            pause(CONNECT_PAUSE_MS);
+        }
+    }
+
+    /** Whether it is connected, as far as can be seen, and no commit of it is pending. */
+    synchronized boolean isIdle() {
+        if (isClosed || channel == null || state == State.WAITING || state == State.UNSURE) {
+            return false;
+        }
+        try {
+            return channel.read(ByteBuffer.allocate(1)) == 0;
+        } catch (IOException failed) {
+            return false;
         }
     }
 
@@ -205,6 +257,9 @@ public final class Session implements AutoCloseable {
 
     /** Gives the connection up; the exception that says so. */
     private IOException lost(IOException failed) throws IOException {
+        if (channel != null) {
+            LOGGER.log(System.Logger.Level.WARNING, "the connection to {0} failed: {1}", address, failed);
+        }
         IOException lost = failed;
         if (isPending()) {
             lost = new Lost(failed, number, stampNs, hasLease);
@@ -245,7 +300,7 @@ public final class Session implements AutoCloseable {
 
     /** Ends the session for good. A commit that is not released then is never known as released. */
     @Override
-    public void close() throws IOException {
+    public synchronized void close() throws IOException {
         isClosed = true;
         drop();
     }
@@ -255,7 +310,7 @@ public final class Session implements AutoCloseable {
      * commit and set no lease by it: the other calls do not know of that. Throws {@link IllegalArgumentException} where the
      * line has more than 64 bytes, or a byte that is no printable ASCII.
      */
-    public String ask(String line) throws IOException {
+    public synchronized String ask(String line) throws IOException {
         if (!LINE.matcher(line).matches()) {
             throw new IllegalArgumentException("not a line: " + line);
         }
@@ -268,6 +323,7 @@ public final class Session implements AutoCloseable {
         giveUpNs = System.nanoTime() + timeout.toNanos();
         if (channel == null) {
             connect();
+            LOGGER.log(System.Logger.Level.DEBUG, "connected anew to {0}", address);
         }
         try {
             send(line + "\n");
@@ -285,7 +341,7 @@ public final class Session implements AutoCloseable {
     }
 
     /** The time now. */
-    public Interval now() throws IOException {
+    public synchronized Interval now() throws IOException {
         look();
         long[] numbers = answered("now", Map.of("now", 2)).numbers;
         if (numbers[0] > numbers[1]) {
@@ -295,13 +351,13 @@ public final class Session implements AutoCloseable {
     }
 
     /** Whether time {@code tNs} has surely passed. */
-    public boolean after(long tNs) throws IOException {
+    public synchronized boolean after(long tNs) throws IOException {
         look();
         return answered("after " + tNs, YES_OR_NO).word.equals("yes");
     }
 
     /** Whether time {@code tNs} has surely not arrived. */
-    public boolean before(long tNs) throws IOException {
+    public synchronized boolean before(long tNs) throws IOException {
         look();
         return answered("before " + tNs, YES_OR_NO).word.equals("yes");
     }
@@ -310,7 +366,7 @@ public final class Session implements AutoCloseable {
      * Sets the lease: timestamps of commits that begin from now on lie from {@code loNs} to {@code hiNs}, both included.
      * Refuses with 101 and 102, and then the lease is what it was.
      */
-    public void lease(long loNs, long hiNs) throws IOException {
+    public synchronized void lease(long loNs, long hiNs) throws IOException {
         checkOpen();
         wantsLease = true;
         look();
@@ -328,7 +384,7 @@ public final class Session implements AutoCloseable {
      * says. Refuses with 903 where the lease is over or was lost with its connection: set it again. After another refusal begin
      * again, with the same floor: one that began all the same is ended first, too.
      */
-    public long begin(long floorNs) throws IOException {
+    public synchronized long begin(long floorNs) throws IOException {
         start(floorNs, System.nanoTime());
         waiter = Waiter.OF_BEGIN;
         return stampNs;
@@ -339,7 +395,7 @@ public final class Session implements AutoCloseable {
      * that takes longer than the time-out; as after a refusal, the commit still waits then, and may be waited for again.
      * Throws {@link IllegalStateException} where no commit was begun, or the connection of the last one failed.
      */
-    public long awaitRelease() throws IOException {
+    public synchronized long awaitRelease() throws IOException {
         long began = System.nanoTime();
         look();
         if (waiter == Waiter.NOBODY) {
@@ -355,7 +411,7 @@ public final class Session implements AutoCloseable {
      * #awaitRelease} goes on with it, and the next {@link #commit} or {@link #begin} waits for its release first, and then
      * begins another one.
      */
-    public long commit(long floorNs) throws IOException {
+    public synchronized long commit(long floorNs) throws IOException {
         long began = System.nanoTime();
         start(floorNs, began);
         release(began);
@@ -374,7 +430,7 @@ public final class Session implements AutoCloseable {
         try {
             sendFirst(floorNs);
         } catch (TrueTime.Refused refused) {
-            if (refused.number() != COMMIT_PENDING || !isUnsure) {
+            if (refused.number() != TrueTime.Refused.COMMIT_PENDING || !isUnsure) {
                 throw refused;
             }
             state = State.WAITING; // it began, though it was refused
@@ -398,7 +454,7 @@ public final class Session implements AutoCloseable {
     /** Sends the first line of the next commit. */
     private void sendFirst(long floorNs) throws IOException {
         if (wantsLease && !hasLease) {
-            throw new TrueTime.Refused(LEASE_LOST);
+            throw new TrueTime.Refused(TrueTime.Refused.LEASE_OVER);
         }
         long next = number + 1;
         state = State.NO_COMMIT;
@@ -419,6 +475,7 @@ public final class Session implements AutoCloseable {
      * connection.
      */
     private void release(long began) throws IOException {
+        boolean isTold = false;
         while (state == State.WAITING) {
             try {
                 sendCommit(number, 0);
@@ -432,7 +489,11 @@ public final class Session implements AutoCloseable {
                 if (System.nanoTime() - began > timeout.toNanos()) {
                     throw new SocketTimeoutException("the commit is not released in time");
                 }
-                pause();
+                if (System.nanoTime() - began > LONG_WAIT_NS && !isTold) {
+                    isTold = true;
+                    LOGGER.log(System.Logger.Level.WARNING, "the commit with timestamp {0,number,#} waits for long", stampNs);
+                }
+                pause(PAUSE_MS);
             }
         }
     }
@@ -459,7 +520,9 @@ public final class Session implements AutoCloseable {
             numbers[place] = number(line, words[place + 1]);
         }
         if (words[0].equals("refused") && numbers.length == 1 && numbers[0] >= 1 && numbers[0] <= 65_535) {
-            throw new TrueTime.Refused((int) numbers[0]);
+            TrueTime.Refused refused = new TrueTime.Refused((int) numbers[0]);
+            LOGGER.log(System.Logger.Level.DEBUG, "{0}: {1}", line, refused.getMessage());
+            throw refused;
         }
         if (wanted.getOrDefault(words[0], -1) != numbers.length) {
             throw failed(line);
@@ -519,9 +582,9 @@ public final class Session implements AutoCloseable {
         }
     }
 
-    private static void pause() throws InterruptedIOException {
+    private static void pause(long milliseconds) throws InterruptedIOException {
         try {
-            Thread.sleep(PAUSE_MS);
+            Thread.sleep(milliseconds);
         } catch (InterruptedException interrupted) {
             Thread.currentThread().interrupt();
             throw new InterruptedIOException("interrupted");

@@ -1,3 +1,5 @@
+package io.truetime;
+
 import java.io.IOException;
 import java.nio.ByteBuffer;
 import java.nio.ByteOrder;
@@ -21,7 +23,7 @@ import java.util.concurrent.atomic.AtomicInteger;
 /**
  * Tests the stamper: its rule by values worked out by hand, and stampers over files that the tests write.
  *
- * <p>{@code javac -Xlint:all -Werror -d OUT TrueTime.java Stamper.java test/StamperTest.java && java -cp OUT StamperTest}
+ * <p>Run as {@code java -cp OUT io.truetime.StamperTest}.
  */
 public final class StamperTest {
     private static final long MAX = TrueTime.MAX_TIME_NS;

@@ -1,3 +1,5 @@
+package io.truetime;
+
 import java.time.Duration;
 import java.util.concurrent.TimeUnit;
 import java.util.concurrent.atomic.AtomicLong;
@@ -7,7 +9,7 @@ import java.util.concurrent.locks.LockSupport;
  * Timestamps for commits, taken in the database's own process, by the time that the daemon shares:
  *
  * <pre>{@code
- * TrueTime client = TrueTime.open(Path.of("/run/truetime/time"), "root");
+ * TrueTime client = TrueTime.open(Path.of("/run/truetime/time"), "truetime");
  * Stamper stamper = new Stamper(client); // one for all threads
  * long stampNs = stamper.stamp(0).stampNs(); // no other commit of this stamper has this timestamp
  * // write and commit locally, under this timestamp

@@ -1,3 +1,5 @@
+package io.truetime;
+
 import java.io.IOException;
 import java.io.UncheckedIOException;
 import java.lang.invoke.MethodHandles;
@@ -23,7 +25,7 @@ import java.util.Map;
  * reads it as often as it likes, without a lock and without waiting:
  *
  * <pre>{@code
- * TrueTime client = TrueTime.open(Path.of("/run/truetime/time"), "root");
+ * TrueTime client = TrueTime.open(Path.of("/run/truetime/time"), "truetime");
  * TrueTime.Reading now = client.now();
  * System.out.println(now.earliestNs() + " " + now.latestNs()); // the true time lies between them, in nanoseconds
  * }</pre>
@@ -81,23 +83,87 @@ public final class TrueTime implements AutoCloseable {
     /** One of these is null. */
     private final ByteBuffer mapped;
     private final FileChannel file;
+    private volatile boolean isClosed;
 
     private TrueTime(ByteBuffer mapped, FileChannel file) {
         this.mapped = mapped;
         this.file = file;
     }
 
-    /** A refusal; {@link #number} says which. */
+    /**
+     * A refusal of a reader, a stamper or a session; {@link #number} says which, as the constants do. It is not checked, and has
+     * no stack trace. The cause of {@link #NO_FILE} is what the system said, and the text of {@link #OTHER_FILE} says which check
+     * of the file failed.
+     */
     public static class Refused extends RuntimeException {
+        /** The service is out of memory. */
+        public static final int OUT_OF_MEMORY = 1;
+        /** The ends of the lease are out of order. */
+        public static final int LEASE_BACKWARDS = 101;
+        /** The upper end of the lease is above the greatest time. */
+        public static final int LEASE_PAST_MAX = 102;
+        /** The daemon has published nothing so far, or nothing is published any more. */
+        public static final int NOTHING = 801;
+        /** The clock is below that of the publication, or above the greatest time. */
+        public static final int CLOCK_BACK = 802;
+        /** The clock gave no reading. */
+        public static final int CLOCK_FAILED = 803;
+        /** No stamp is left up to the greatest time. */
+        public static final int USED_UP = 901;
+        /** The floor is too far ahead of the latest. */
+        public static final int FLOOR_TOO_FAR = 902;
+        /** The least stamp is above the upper end of the lease, or the session has lost its lease: set it again. */
+        public static final int LEASE_OVER = 903;
+        /** As many commits are pending as may. */
+        public static final int TOO_MANY_COMMITS = 1001;
+        /** A commit with this id is pending or was released. */
+        public static final int ID_USED = 1002;
+        /** Another commit has this stamp. */
+        public static final int STAMP_USED = 1003;
+        /** The service knows no such line. */
+        public static final int NO_LINE = 1101;
+        /** The line has more than 64 bytes. */
+        public static final int LINE_TOO_LONG = 1102;
+        /** A later commit has begun in this session. */
+        public static final int COMMIT_PASSED = 1103;
+        /** The last commit is not known as released. */
+        public static final int COMMIT_PENDING = 1104;
+        /** The file cannot be opened, mapped or read, or the client is closed. */
+        public static final int NO_FILE = 1701;
+        /** Not such a file, or of another owner, writable by others, of another boot or another clock. */
+        public static final int OTHER_FILE = 1702;
+        /** No daemon wrote what stands there. */
+        public static final int NO_SLOT = 1703;
+        /** Another publication came during each of the tries. */
+        public static final int BUSY = 1704;
+        /** The clock is past the last reading at which the publication may be used. */
+        public static final int TOO_WIDE = 1708;
+        /** The floor, or the lower end of the lease, is further ahead than the machine allows. */
+        public static final int FLOOR_ABOVE_CAP = 1821;
+        /** The commit is pending no more: its connection broke, or the machine ends. */
+        public static final int COMMIT_GONE = 1822;
+        /** The machine knows that an assumption of the service is broken. */
+        public static final int BROKEN = 1823;
+        /** The reading is wider than the machine allows. */
+        public static final int READING_TOO_WIDE = 1824;
+
         private static final long serialVersionUID = 1;
         private final int number;
 
         Refused(int number) {
-            this(number, "");
+            this(number, "", null);
         }
 
         Refused(int number, String more) {
-            super("refused " + number + ": " + MEANINGS.getOrDefault(number, "see docs/FORMATS.md") + more, null, false, false);
+            this(number, more, null);
+        }
+
+        Refused(int number, Throwable cause) {
+            this(number, ": " + cause, cause);
+        }
+
+        private Refused(int number, String more, Throwable cause) {
+            super("refused " + number + ": " + MEANINGS.getOrDefault(number, "see docs/FORMATS.md") + more, cause, false, false);
             this.number = number;
         }
 
@@ -170,13 +236,18 @@ public final class TrueTime implements AutoCloseable {
         }
     }
 
-    /** Maps the file at this path, which the named user has to own. Refuses with 1701 and 1702. */
+    /** Maps the file at this path, which this user has to own: a name or a number. Refuses with 1701 and 1702. */
     public static TrueTime open(Path path, String owner) {
         try (FileChannel file = opened(path, owner)) {
             return new TrueTime(file.map(FileChannel.MapMode.READ_ONLY, 0, BYTES), null);
         } catch (IOException failed) {
-            throw new Refused(1701);
+            throw new Refused(Refused.NO_FILE, failed);
         }
+    }
+
+    /** Maps the file at this path, which the user of this number has to own. Refuses with 1701 and 1702. */
+    public static TrueTime open(Path path, int owner) {
+        return open(path, Integer.toUnsignedString(owner));
     }
 
     /**
@@ -187,13 +258,14 @@ public final class TrueTime implements AutoCloseable {
         try {
             return new TrueTime(null, opened(path, owner));
         } catch (IOException failed) {
-            throw new Refused(1701);
+            throw new Refused(Refused.NO_FILE, failed);
         }
     }
 
-    /** Closes the file; a mapped one goes with its client object. */
+    /** Closes the client: calls refuse with 1701 from now on. The memory of a mapped file goes with the client object. */
     @Override
     public void close() {
+        isClosed = true;
         try {
             if (file != null) {
                 file.close();
@@ -205,9 +277,12 @@ public final class TrueTime implements AutoCloseable {
 
     /**
      * The last publication. Refuses with 801, 1704 and 1703, then with 801 where nothing is published any more, and with 1701
-     * where it is not mapped and has become shorter.
+     * where it is not mapped and has become shorter, or the client is closed.
      */
     public Publication read() {
+        if (isClosed) {
+            throw new Refused(Refused.NO_FILE, ": the client is closed");
+        }
         for (int tries = 0; tries < TRIES; tries++) {
             long index = index();
             // The publication's count is odd where an odd number of the eight bytes of the index are odd.
@@ -262,11 +337,11 @@ public final class TrueTime implements AutoCloseable {
         try {
             while (bytes.hasRemaining()) {
                 if (file.read(bytes, at + bytes.position()) <= 0) {
-                    throw new Refused(1701);
+                    throw new Refused(Refused.NO_FILE, ": it has become shorter");
                 }
             }
         } catch (IOException failed) {
-            throw new Refused(1701);
+            throw new Refused(Refused.NO_FILE, failed);
         }
         VarHandle.acquireFence();
         return bytes;
@@ -275,10 +350,16 @@ public final class TrueTime implements AutoCloseable {
     /** The file at this path, where it is such a file. */
     private static FileChannel opened(Path path, String owner) throws IOException {
         PosixFileAttributes found = Files.readAttributes(path, PosixFileAttributes.class, LinkOption.NOFOLLOW_LINKS);
-        if (!found.isRegularFile() || found.size() != BYTES || !found.owner().getName().equals(owner)
-                || found.permissions().contains(PosixFilePermission.GROUP_WRITE)
+        if (!found.isRegularFile() || found.size() != BYTES) {
+            throw new Refused(Refused.OTHER_FILE, ": it is no file of " + BYTES + " bytes");
+        }
+        String number = Integer.toUnsignedString((int) Files.getAttribute(path, "unix:uid", LinkOption.NOFOLLOW_LINKS));
+        if (!owner.equals(number) && !owner.equals(found.owner().getName())) {
+            throw new Refused(Refused.OTHER_FILE, ": its owner is " + found.owner().getName() + ", not " + owner);
+        }
+        if (found.permissions().contains(PosixFilePermission.GROUP_WRITE)
                 || found.permissions().contains(PosixFilePermission.OTHERS_WRITE)) {
-            throw new Refused(1702);
+            throw new Refused(Refused.OTHER_FILE, ": others may write to it");
         }
         FileChannel file = FileChannel.open(path, StandardOpenOption.READ, LinkOption.NOFOLLOW_LINKS);
         try {
@@ -294,8 +375,11 @@ public final class TrueTime implements AutoCloseable {
         byte[] boot = new byte[36];
         head.get(24, boot);
         boolean isFormat = head.getLong(0) == MAGIC_AND_LENGTH && head.getLong(8) == 1 && head.getInt(60) == 0;
-        if (!isFormat || !isSameClock(boot)) {
-            throw new Refused(1702);
+        if (!isFormat) {
+            throw new Refused(Refused.OTHER_FILE, ": it is of another format, or of another version");
+        }
+        if (!isSameClock(boot)) {
+            throw new Refused(Refused.OTHER_FILE, ": it is of another boot, or of another clock");
         }
     }
 

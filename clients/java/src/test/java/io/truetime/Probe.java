@@ -1,3 +1,5 @@
+package io.truetime;
+
 import java.io.BufferedReader;
 import java.io.IOException;
 import java.io.InputStreamReader;
@@ -7,14 +9,21 @@ import java.net.UnixDomainSocketAddress;
 import java.nio.charset.StandardCharsets;
 import java.nio.file.Path;
 import java.time.Duration;
+import java.util.ArrayDeque;
 import java.util.ArrayList;
+import java.util.Deque;
+import java.util.HashSet;
 import java.util.List;
+import java.util.Queue;
 import java.util.concurrent.Callable;
+import java.util.concurrent.ConcurrentLinkedQueue;
 import java.util.concurrent.CyclicBarrier;
 import java.util.concurrent.ExecutionException;
 import java.util.concurrent.ExecutorService;
 import java.util.concurrent.Executors;
 import java.util.concurrent.Future;
+import java.util.concurrent.TimeUnit;
+import java.util.concurrent.atomic.AtomicInteger;
 import java.util.function.Supplier;
 
 /** What reader, stamper and sessions answer, for the tests: as ../../c/test/probe.c. */
@@ -254,6 +263,65 @@ public final class Probe {
         }
     }
 
+    /** So many commits in each of so many threads. */
+    private static String commits(Pool pool, int threads, int each) throws InterruptedException {
+        ExecutorService running = Executors.newFixedThreadPool(threads);
+        Queue<Long> stamps = new ConcurrentLinkedQueue<>();
+        AtomicInteger errors = new AtomicInteger();
+        for (int thread = 0; thread < threads; thread++) {
+            running.execute(() -> {
+                for (int turn = 0; turn < each; turn++) {
+                    try {
+                        stamps.add(pool.commit(0));
+                    } catch (IOException | InterruptedException | TrueTime.Refused failed) {
+                        errors.incrementAndGet();
+                    }
+                }
+            });
+        }
+        running.shutdown();
+        running.awaitTermination(1, TimeUnit.MINUTES);
+        return stamps.size() + " stamps, " + new HashSet<>(stamps).size() + " different, " + errors + " errors";
+    }
+
+    /** What a call of a pool gives. */
+    private static String pooled(Pool pool, Deque<Pool.Lent> out, String[] words) throws IOException, InterruptedException {
+        switch (words[0]) {
+            case "commits":
+                return commits(pool, Integer.parseInt(words[1]), Integer.parseInt(words[2]));
+            case "hold":
+                out.push(pool.lend());
+                return "held";
+            case "begin":
+                return Long.toString(out.peek().session().begin(0));
+            case "free":
+                while (!out.isEmpty()) {
+                    out.pop().close();
+                }
+                return "freed";
+            default:
+                pool.close();
+                return "closed";
+        }
+    }
+
+    private static void tryPools(BufferedReader calls) throws IOException, InterruptedException {
+        String[] opening = calls.readLine().split(" ");
+        String address = opening[1] + " " + opening[2] + " " + opening[4];
+        Pool pool = new Pool(Integer.parseInt(opening[3]), Duration.ofMillis(Long.parseLong(opening[4])), () -> opened(address));
+        Deque<Pool.Lent> out = new ArrayDeque<>();
+        System.out.println("open");
+        for (String call = calls.readLine(); call != null; call = calls.readLine()) {
+            String said;
+            try {
+                said = pooled(pool, out, call.split(" "));
+            } catch (TrueTime.Refused | IOException failed) {
+                said = said(failed);
+            }
+            System.out.println(said);
+        }
+    }
+
     private static final int QUESTIONS = 3;
 
     /** A reader, one with a stamper, or a session. */
@@ -340,6 +408,10 @@ public final class Probe {
         }
         if (words.length == 1 && words[0].equals("stamper")) {
             tryStampers(lines);
+            return;
+        }
+        if (words.length == 1 && words[0].equals("pool")) {
+            tryPools(lines);
             return;
         }
         if (words.length == 1 && words[0].equals("openings")) {

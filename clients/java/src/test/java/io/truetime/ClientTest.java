@@ -1,0 +1,252 @@
+package io.truetime;
+
+import java.io.BufferedReader;
+import java.io.IOException;
+import java.io.InputStreamReader;
+import java.net.InetAddress;
+import java.net.InetSocketAddress;
+import java.net.ServerSocket;
+import java.net.Socket;
+import java.net.SocketException;
+import java.net.SocketTimeoutException;
+import java.net.StandardProtocolFamily;
+import java.net.UnixDomainSocketAddress;
+import java.nio.ByteBuffer;
+import java.nio.ByteOrder;
+import java.nio.channels.ClosedChannelException;
+import java.nio.channels.ServerSocketChannel;
+import java.nio.channels.SocketChannel;
+import java.nio.charset.StandardCharsets;
+import java.nio.file.Files;
+import java.nio.file.NoSuchFileException;
+import java.nio.file.Path;
+import java.nio.file.attribute.PosixFilePermissions;
+import java.time.Duration;
+import java.util.ArrayList;
+import java.util.Arrays;
+import java.util.List;
+import java.util.logging.Handler;
+import java.util.logging.Level;
+import java.util.logging.LogRecord;
+import java.util.logging.Logger;
+import java.util.logging.SimpleFormatter;
+
+/** Tests what is Java's own: causes of refusals, owners, closing, pools, connecting in time, and what is logged. */
+public final class ClientTest {
+    private static final Duration TIMEOUT = Duration.ofSeconds(10);
+    private static int checks;
+
+    private ClientTest() {}
+
+    private interface Call {
+        Object make() throws Exception;
+    }
+
+    private static void check(boolean isSo, Object... what) {
+        checks++;
+        if (!isSo) {
+            throw new AssertionError(Arrays.toString(what));
+        }
+    }
+
+    /** What a call throws. */
+    private static Exception thrown(Call call) {
+        try {
+            throw new AssertionError("it gave " + call.make());
+        } catch (Exception failed) {
+            return failed;
+        }
+    }
+
+    private static byte[] file() throws IOException {
+        ByteBuffer bytes = ByteBuffer.allocate(320).order(ByteOrder.LITTLE_ENDIAN);
+        bytes.putLong(0, 0x0000_0140_3253_5454L).putLong(8, 1);
+        byte[] boot = Files.readString(Path.of("/proc/sys/kernel/random/boot_id")).getBytes(StandardCharsets.US_ASCII);
+        return bytes.put(24, boot, 0, 36).array();
+    }
+
+    private static void refuses(Path path, byte[] bytes, String mode, String owner, String why) throws IOException {
+        Files.write(path, bytes);
+        Files.setPosixFilePermissions(path, PosixFilePermissions.fromString(mode));
+        for (Call call : new Call[] {() -> TrueTime.open(path, owner), () -> TrueTime.openUnmapped(path, owner)}) {
+            TrueTime.Refused refused = (TrueTime.Refused) thrown(call);
+            check(refused.number() == TrueTime.Refused.OTHER_FILE && refused.getMessage().endsWith(": " + why), refused);
+        }
+    }
+
+    private static void causesOfFiles(Path room) throws Exception {
+        Path path = room.resolve("time");
+        Files.write(path, file());
+        String me = Files.getOwner(path).getName();
+        int number = (int) Files.getAttribute(path, "unix:uid");
+        String readable = "rw-r--r--";
+        byte[] other = file();
+        other[3] = '1';
+        byte[] boot = file();
+        boot[24] ^= 1;
+        refuses(path, Arrays.copyOf(file(), 319), readable, me, "it is no file of 320 bytes");
+        refuses(path, file(), readable, "no-such-user", "its owner is " + me + ", not no-such-user");
+        refuses(path, file(), "rw-rw-r--", me, "others may write to it");
+        refuses(path, other, readable, me, "it is of another format, or of another version");
+        refuses(path, boot, readable, me, "it is of another boot, or of another clock");
+        Exception failed = thrown(() -> TrueTime.open(room.resolve("none"), me));
+        check(failed instanceof TrueTime.Refused refused && refused.number() == TrueTime.Refused.NO_FILE
+            && refused.getCause() instanceof NoSuchFileException, failed);
+        Files.write(path, file());
+        Files.setPosixFilePermissions(path, PosixFilePermissions.fromString(readable));
+        TrueTime[] clients = {
+            TrueTime.open(path, number), TrueTime.open(path, Integer.toString(number)), TrueTime.openUnmapped(path, me)};
+        for (TrueTime client : clients) {
+            check(thrown(client::now) instanceof TrueTime.Refused refused && refused.number() == TrueTime.Refused.NOTHING, client);
+            client.close();
+            client.close();
+            check(thrown(client::now) instanceof TrueTime.Refused refused && refused.number() == TrueTime.Refused.NO_FILE, client);
+        }
+    }
+
+    /** Serves sessions: a commit is released so long after it was begun, `now` ends the session, `before` is refused. */
+    private static ServerSocket serve(long releasedAfterMs) throws IOException {
+        ServerSocket server = new ServerSocket(0, 50, InetAddress.getLoopbackAddress());
+        start(() -> {
+            while (true) {
+                Socket one = server.accept();
+                start(() -> play(one, releasedAfterMs));
+            }
+        });
+        return server;
+    }
+
+    private interface Work {
+        void run() throws IOException;
+    }
+
+    private static void start(Work work) {
+        Thread thread = new Thread(() -> {
+            try {
+                work.run();
+            } catch (IOException ended) {
+                // It was closed.
+            }
+        });
+        thread.setDaemon(true);
+        thread.start();
+    }
+
+    private static void play(Socket one, long releasedAfterMs) throws IOException {
+        String last = "";
+        long began = 0;
+        try (one; BufferedReader lines = new BufferedReader(new InputStreamReader(one.getInputStream(), StandardCharsets.US_ASCII))) {
+            for (String line = lines.readLine(); line != null && !line.equals("now"); line = lines.readLine()) {
+                String[] words = line.split(" ");
+                boolean isFirst = !words[1].equals(last);
+                if (isFirst) {
+                    last = words[1];
+                    began = System.nanoTime();
+                }
+                boolean isReleased = !isFirst && System.nanoTime() - began > 1_000_000 * releasedAfterMs;
+                String reply = words[0].equals("before") ? "refused 801" : (isReleased ? "committed " : "waiting ") + words[1] + " 200";
+                one.getOutputStream().write((reply + "\n").getBytes(StandardCharsets.US_ASCII));
+            }
+        }
+    }
+
+    private static void log() throws Exception {
+        List<String> told = new ArrayList<>();
+        Logger logger = Logger.getLogger("io.truetime");
+        logger.setUseParentHandlers(false);
+        logger.setLevel(Level.ALL);
+        logger.addHandler(new Handler() {
+            @Override
+            public void publish(LogRecord record) {
+                told.add(record.getLevel() + " " + new SimpleFormatter().formatMessage(record));
+            }
+
+            @Override
+            public void flush() {}
+
+            @Override
+            public void close() {}
+        });
+        try (ServerSocket server = serve(1500); Session session = Session.connect(server.getLocalSocketAddress(), TIMEOUT)) {
+            check(thrown(() -> session.before(1)) instanceof TrueTime.Refused, told);
+            check(thrown(session::now) instanceof IOException, told);
+            check(session.commit(0) == 200, told);
+        }
+        List<String> wanted = List.of("FINE before 1: refused 801", "WARNING the connection to ", "FINE connected anew to ",
+            "WARNING the commit with timestamp 200 waits for long");
+        boolean isSo = told.size() == wanted.size();
+        for (int place = 0; isSo && place < told.size(); place++) {
+            isSo = told.get(place).startsWith(wanted.get(place));
+        }
+        check(isSo, told.toArray());
+    }
+
+    private static void pools() throws Exception {
+        try (ServerSocket server = serve(0)) {
+            Pool pool = new Pool(1, Duration.ofMillis(200), () -> Session.connect(server.getLocalSocketAddress(), TIMEOUT));
+            Pool.Lent lent = pool.lend();
+            check(thrown(() -> pool.commit(0)) instanceof SocketTimeoutException, "all are lent");
+            Thread.currentThread().interrupt();
+            check(thrown(() -> pool.commit(0)) instanceof InterruptedException, "it is interrupted");
+            lent.close();
+            lent.close();
+            check(pool.commit(0) == 200, "it is free");
+            Pool.Lent again = pool.lend();
+            check(again.session() == lent.session(), "it is the same");
+            check(thrown(() -> pool.commit(0)) instanceof SocketTimeoutException, "it came back once");
+            pool.close();
+            check(thrown(() -> pool.commit(0)) instanceof ClosedChannelException, "it is closed");
+            again.close();
+            check(thrown(() -> again.session().after(1)) instanceof ClosedChannelException, "it is closed with it");
+        }
+        check(thrown(() -> new Pool(0, TIMEOUT, () -> null)) instanceof IllegalArgumentException, "none");
+        Pool none = new Pool(1, TIMEOUT, () -> {
+            throw new IOException("none");
+        });
+        for (int turn = 0; turn < 3; turn++) {
+            check("none".equals(thrown(() -> none.commit(0)).getMessage()), turn);
+        }
+    }
+
+    /** Connecting to a Unix socket at which as many wait as may ends in time. */
+    private static void fullSocket(Path room) throws Exception {
+        UnixDomainSocketAddress address = UnixDomainSocketAddress.of(room.resolve("socket"));
+        List<SocketChannel> others = new ArrayList<>();
+        try (ServerSocketChannel server = ServerSocketChannel.open(StandardProtocolFamily.UNIX)) {
+            server.bind(address, 1);
+            boolean isIn = true;
+            while (isIn) {
+                SocketChannel other = SocketChannel.open(StandardProtocolFamily.UNIX);
+                others.add(other);
+                other.configureBlocking(false);
+                try {
+                    isIn = other.connect(address);
+                } catch (SocketException full) {
+                    isIn = false;
+                }
+            }
+            long began = System.nanoTime();
+            Exception failed = thrown(() -> Session.connect(address, Duration.ofMillis(300)));
+            long tookMs = (System.nanoTime() - began) / 1_000_000;
+            check(failed instanceof SocketTimeoutException && tookMs >= 300 && tookMs < 20_000, failed, tookMs);
+            server.accept().close();
+            Session.connect(address, TIMEOUT).close();
+        }
+        for (SocketChannel other : others) {
+            other.close();
+        }
+        Files.delete(address.getPath());
+    }
+
+    /** Runs all. */
+    public static void main(String[] words) throws Exception {
+        Path room = Files.createTempDirectory("truetime");
+        causesOfFiles(room);
+        log();
+        pools();
+        fullSocket(room);
+        Files.delete(room.resolve("time"));
+        Files.delete(room);
+        System.out.println("passed: " + checks + " checks");
+    }
+}
