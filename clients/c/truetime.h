@@ -5,7 +5,9 @@
  * clock_gettime makes none.
  *
  *     tt_client client;
- *     if (tt_open(&client, "/run/truetime/time", 0) != 0) ...    0: the user who has to own the file
+ *     uid_t owner;
+ *     if (tt_uid("truetime", &owner) != 0) ...                       the user who has to own the file
+ *     if (tt_open(&client, "/run/truetime/time", owner) != 0) ...    tt_cause(&client) has the reason
  *     tt_reading now;
  *     if (tt_now(&client, &now) != 0) ...
  *     now.earliest_ns <= true time <= now.latest_ns
@@ -25,10 +27,12 @@
 #include "truetime_errors.h"
 
 #include <fcntl.h>
+#include <pwd.h>
 #include <stdbool.h>
 #include <stddef.h>
 #include <stdint.h>
 #include <stdio.h>
+#include <stdlib.h>
 #include <string.h>
 #include <sys/mman.h>
 #include <sys/stat.h>
@@ -64,12 +68,42 @@ enum tt_refusal {
     TT_TOO_WIDE = 1708     /* the clock is past the last reading at which the publication may be used */
 };
 
+/* Which check of a file failed, behind TT_OTHER_FILE. */
+enum tt_file_fault { TT_FILE_KIND = 1, TT_FILE_OWNER, TT_FILE_WRITABLE, TT_FILE_FORMAT, TT_FILE_CLOCK };
+
 /* A file. Set it by tt_open or tt_open_unmapped; after that any number of threads may use it. */
 typedef struct tt_client {
     const uint64_t *words; /* where it is mapped */
     int file;              /* where it is not */
     bool is_unmapped;
+    int refused, cause; /* why it is not open: TT_NO_FILE and the error number, or TT_OTHER_FILE and an enum tt_file_fault */
 } tt_client;
+
+/* The words for why a client is not open. */
+static inline const char *tt_cause(const tt_client *client) {
+    if (client->refused == TT_NO_FILE) return strerror(client->cause);
+    if (client->refused != TT_OTHER_FILE) return "it was opened";
+    switch (client->cause) {
+        case TT_FILE_KIND: return "it is no file of 320 bytes";
+        case TT_FILE_OWNER: return "it has another owner";
+        case TT_FILE_WRITABLE: return "others may write to it";
+        case TT_FILE_FORMAT: return "it is of another format, or of another version";
+        default: return "it is of another boot, or of another clock";
+    }
+}
+
+/* The number of a user, by name, or by its digits. Refuses with 1702 where there is no such user. */
+static inline int tt_uid(const char *user, uid_t *uid) {
+    char *end;
+    char text[4096];
+    struct passwd found, *is_found = NULL;
+    unsigned long number = strtoul(user, &end, 10);
+    *uid = (uid_t)number;
+    if (*user >= '0' && *user <= '9' && *end == '\0' && number == (unsigned long)*uid) return 0;
+    if (getpwnam_r(user, &found, text, sizeof text, &is_found) != 0 || is_found == NULL) return TT_OTHER_FILE;
+    *uid = found.pw_uid;
+    return 0;
+}
 
 /* What the daemon published. */
 typedef struct tt_publication {
@@ -112,29 +146,36 @@ static inline bool tt_pread(int file, void *bytes, size_t length, size_t at) {
     return is_whole;
 }
 
+static inline int tt_refuse(tt_client *client, int refused, int cause) {
+    client->refused = refused;
+    client->cause = cause;
+    return refused;
+}
+
 /* Refuses, with 1701 and 1702, all but the shared file of this boot that the user owns and nobody else may write. */
-static inline int tt_check_file(int file, uid_t owner) {
+static inline int tt_check_file(tt_client *client, uid_t owner) {
     struct stat found;
     char head[8 * TT_FIRST_SLOT];
-    if (fstat(file, &found) != 0) return TT_NO_FILE;
-    if (!S_ISREG(found.st_mode) || found.st_size != TT_BYTES || found.st_uid != owner ||
-        (found.st_mode & (S_IWGRP | S_IWOTH)) != 0)
-        return TT_OTHER_FILE;
-    if (!tt_pread(file, head, sizeof head, 0)) return TT_NO_FILE;
+    errno = 0;
+    if (fstat(client->file, &found) != 0) return tt_refuse(client, TT_NO_FILE, errno);
+    if (!S_ISREG(found.st_mode) || found.st_size != TT_BYTES) return tt_refuse(client, TT_OTHER_FILE, TT_FILE_KIND);
+    if (found.st_uid != owner) return tt_refuse(client, TT_OTHER_FILE, TT_FILE_OWNER);
+    if ((found.st_mode & (S_IWGRP | S_IWOTH)) != 0) return tt_refuse(client, TT_OTHER_FILE, TT_FILE_WRITABLE);
+    if (!tt_pread(client->file, head, sizeof head, 0)) return tt_refuse(client, TT_NO_FILE, errno);
     /* The format, the length, and the clock: 1 is CLOCK_MONOTONIC. The boot has 36 letters, and 4 zeros follow. */
-    if (memcmp(head, "TTS2\x40\1\0\0\1\0\0\0\0\0\0\0", 16) != 0 || memcmp(head + 60, "\0\0\0\0", 4) != 0 ||
-        !tt_is_same_clock(head + 24))
-        return TT_OTHER_FILE;
-    return 0;
+    if (memcmp(head, "TTS2\x40\1\0\0\1\0\0\0\0\0\0\0", 16) != 0 || memcmp(head + 60, "\0\0\0\0", 4) != 0)
+        return tt_refuse(client, TT_OTHER_FILE, TT_FILE_FORMAT);
+    return tt_is_same_clock(head + 24) ? 0 : tt_refuse(client, TT_OTHER_FILE, TT_FILE_CLOCK);
 }
 
 /* Opens the file at this path, to be read at each call. Refuses with 1701 and 1702; then the client is not open. */
 static inline int tt_open_unmapped(tt_client *client, const char *path, uid_t owner) {
     client->words = NULL;
     client->is_unmapped = false;
+    client->refused = client->cause = 0;
     client->file = open(path, O_RDONLY | O_CLOEXEC | O_NOFOLLOW | O_NONBLOCK);
-    if (client->file < 0) return TT_NO_FILE;
-    int refused = tt_check_file(client->file, owner);
+    if (client->file < 0) return tt_refuse(client, TT_NO_FILE, errno);
+    int refused = tt_check_file(client, owner);
     client->is_unmapped = refused == 0;
     if (refused != 0) close(client->file);
     return refused;
@@ -145,9 +186,10 @@ static inline int tt_open(tt_client *client, const char *path, uid_t owner) {
     int refused = tt_open_unmapped(client, path, owner);
     if (refused != 0) return refused;
     void *mapped = mmap(NULL, TT_BYTES, PROT_READ, MAP_SHARED, client->file, 0);
+    int error = errno;
     close(client->file);
     client->is_unmapped = false;
-    if (mapped == MAP_FAILED) return TT_NO_FILE;
+    if (mapped == MAP_FAILED) return tt_refuse(client, TT_NO_FILE, error);
     client->words = (const uint64_t *)mapped;
     return 0;
 }

@@ -40,6 +40,7 @@ static inline const char *tt_strerror(int answer) {
         case 1824: return "the reading is wider than the machine allows";
         case -ECONNRESET: return "the service ended the session; if it had a lease, it has to be set again";
         case -ENOTCONN: return "the session is not open";
+        case -EADDRNOTAVAIL: return "the host's name has no address";
         case -EPROTO: return "what came is no reply";
         case -ETIMEDOUT: return "no reply or no release came in time";
         default: return answer < 0 ? strerror(-answer) : "see docs/FORMATS.md";

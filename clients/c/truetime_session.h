@@ -28,9 +28,9 @@
 
 #include "truetime_errors.h"
 
-#include <arpa/inet.h>
 #include <errno.h>
 #include <inttypes.h>
+#include <netdb.h>
 #include <netinet/in.h>
 #include <netinet/tcp.h>
 #include <poll.h>
@@ -46,6 +46,10 @@
 #include <time.h>
 #include <unistd.h>
 
+#if !defined(CLOCK_MONOTONIC) || !defined(AI_NUMERICSERV)
+#error "truetime_session.h needs POSIX: compile with -std=gnu11 (or later), or with -D_POSIX_C_SOURCE=200809L"
+#endif
+
 #ifdef __cplusplus
 extern "C" {
 #endif
@@ -55,6 +59,20 @@ extern "C" {
 
 /* The most bytes of a line and of a reply, without the line feed; and of a number that is at most the greatest time. */
 enum { TT_LINE_BYTES = 64, TT_NUMBER_DIGITS = 19 };
+
+/* How long a commit waits before an observer is told, in milliseconds. */
+enum { TT_LONG_WAIT_MS = 1000 };
+
+/* What an observer of a session is told of. */
+typedef enum tt_session_event {
+    TT_CONNECTED_ANEW,    /* the number is 0 */
+    TT_CONNECTION_FAILED, /* the negative of the error number */
+    TT_REFUSED,           /* the number of the refusal */
+    TT_LONG_WAIT          /* the timestamp of the commit that waits for more than TT_LONG_WAIT_MS; told once for each */
+} tt_session_event;
+
+/* An observer, with what it was given as its own. It is called within the calls of the session, and may not make one. */
+typedef void tt_session_observer(void *own, tt_session_event event, int64_t number);
 
 /* The refusals of a commit by the session itself: the lease was lost with its connection, and the one that tt_session_begin
  * began is not known as released: wait for it. Its number and its timestamp stand in the session. */
@@ -90,7 +108,19 @@ typedef struct tt_session {
      * is never known as released, so begin it again or give it up; and whether there was a lease, which has to be set again. */
     uint64_t lost_number, lost_stamp_ns;
     bool lost_lease;
+    tt_session_observer *observer; /* NULL: nobody is told */
+    void *observers_own;
 } tt_session;
+
+/* Has an observer told of all that an open session meets from now on, in place of the one before; NULL is none. */
+static inline void tt_session_observe(tt_session *session, tt_session_observer *observer, void *own) {
+    session->observer = observer;
+    session->observers_own = own;
+}
+
+static inline void tt_session_tell(const tt_session *session, tt_session_event event, int64_t number) {
+    if (session->observer != NULL) session->observer(session->observers_own, event, number);
+}
 
 /* Gives the connection up, and all that belongs to it. */
 static inline void tt_session_drop(tt_session *session) {
@@ -121,7 +151,9 @@ static inline int tt_session_failed(tt_session *session, int error) {
     session->lost_stamp_ns = is_pending ? session->stamp_ns : 0;
     session->lost_lease = session->has_lease;
     tt_session_drop(session);
-    return error == EAGAIN || error == EWOULDBLOCK || error == EINPROGRESS ? -ETIMEDOUT : -error;
+    int answer = error == EAGAIN || error == EWOULDBLOCK || error == EINPROGRESS ? -ETIMEDOUT : -error;
+    tt_session_tell(session, TT_CONNECTION_FAILED, answer);
+    return answer;
 }
 
 /* The machine's clock in milliseconds. */
@@ -178,7 +210,7 @@ static inline int tt_session_reach_unix(tt_session *session, int64_t give_up_ms)
 
 /* Connects a session that has no connection. */
 static inline int tt_session_connect(tt_session *session, int64_t give_up_ms) {
-    bool is_tcp = session->address.sun_family == AF_INET;
+    bool is_tcp = session->address.sun_family != AF_UNIX;
     session->socket = socket(session->address.sun_family, SOCK_STREAM | SOCK_CLOEXEC | (is_tcp ? SOCK_NONBLOCK : 0), 0);
     if (session->socket < 0) return tt_session_failed(session, errno);
     int error = is_tcp ? tt_session_reach_tcp(session, give_up_ms) : tt_session_reach_unix(session, give_up_ms);
@@ -198,16 +230,25 @@ static inline int tt_session_open(tt_session *session, const void *address, sock
     return failed;
 }
 
-/* Connects to an IPv4 address in digits, as "127.0.0.1". `timeout_ms` is how long connecting, a line with its reply (also where
- * it connects anew), and the waiting for a release may take, above 0, however many signals come. Answers -EINVAL where an
- * argument is wrong. Where it does not answer 0, the session is not open. */
+/* Connects to a host by name or address, as "localhost" or "127.0.0.1". A name is looked up here alone, without a time-out, and
+ * its addresses are tried in turn. `timeout_ms` is how long connecting to one, a line with its reply (also where it connects
+ * anew), and the waiting for a release may take, above 0, however many signals come. Answers -EINVAL where an argument is wrong,
+ * and -EADDRNOTAVAIL where the name has no address. Where it does not answer 0, the session is not open. */
 static inline int tt_session_open_tcp(tt_session *session, const char *host, uint16_t port, int timeout_ms) {
-    struct sockaddr_in address;
-    memset(&address, 0, sizeof address);
-    address.sin_family = AF_INET;
-    address.sin_port = htons(port);
-    bool is_valid = inet_pton(AF_INET, host, &address.sin_addr) == 1;
-    return tt_session_open(session, is_valid ? &address : NULL, sizeof address, timeout_ms);
+    struct addrinfo hints, *found = NULL;
+    char digits[6];
+    int failed = tt_session_open(session, NULL, 0, timeout_ms); /* which is not open so far */
+    memset(&hints, 0, sizeof hints);
+    hints.ai_family = AF_UNSPEC;
+    hints.ai_socktype = SOCK_STREAM;
+    hints.ai_flags = AI_NUMERICSERV;
+    snprintf(digits, sizeof digits, "%u", (unsigned)port);
+    if (timeout_ms <= 0) return failed;
+    if (getaddrinfo(host, digits, &hints, &found) != 0) return -EADDRNOTAVAIL;
+    for (const struct addrinfo *one = found; one != NULL && failed != 0; one = one->ai_next)
+        failed = tt_session_open(session, one->ai_addr, one->ai_addrlen, timeout_ms);
+    freeaddrinfo(found);
+    return failed;
 }
 
 /* Connects to the Unix socket at this path, as tt_session_open_tcp. */
@@ -271,7 +312,9 @@ static inline int tt_session_exchange(tt_session *session, const char *line, cha
     memcpy(bytes, line, length);
     bytes[length] = '\n';
     reply[0] = '\0';
-    int failed = session->socket < 0 ? tt_session_connect(session, give_up_ms) : 0;
+    bool is_anew = session->socket < 0;
+    int failed = is_anew ? tt_session_connect(session, give_up_ms) : 0;
+    if (failed == 0 && is_anew) tt_session_tell(session, TT_CONNECTED_ANEW, 0);
     if (failed == 0) failed = tt_session_send(session, bytes, length + 1, give_up_ms);
     return failed != 0 ? failed : tt_session_receive(session, reply, give_up_ms);
 }
@@ -312,8 +355,9 @@ static inline bool tt_is_reply(const char *reply, const char *word, int count, u
 static inline int tt_session_question(tt_session *session, const char *line, char reply[TT_LINE_BYTES + 1]) {
     uint64_t number;
     int failed = tt_session_exchange(session, line, reply);
-    if (failed == 0 && tt_is_reply(reply, "refused", 1, &number) && number >= 1 && number <= UINT16_MAX) return (int)number;
-    return failed;
+    if (failed != 0 || !tt_is_reply(reply, "refused", 1, &number) || number < 1 || number > UINT16_MAX) return failed;
+    tt_session_tell(session, TT_REFUSED, (int64_t)number);
+    return (int)number;
 }
 
 /* The time now; where it does not answer 0, the interval of all times. */
@@ -395,12 +439,18 @@ static inline bool tt_is_unknown(int failed) {
  * connection. */
 static inline int tt_session_release(tt_session *session, int64_t give_up_ms) {
     const struct timespec pause = {0, 1000000};
+    int64_t long_ms = tt_session_clock_ms() + TT_LONG_WAIT_MS;
     while (session->state == TT_WAITING) {
         int failed = tt_session_send_commit(session, session->number, 0);
         if (tt_is_unknown(failed)) tt_session_drop(session);
         if (failed != 0) return failed;
         if (session->state == TT_COMMITTED) break;
-        if (tt_session_clock_ms() > give_up_ms) return -ETIMEDOUT;
+        int64_t now_ms = tt_session_clock_ms();
+        if (now_ms > give_up_ms) return -ETIMEDOUT;
+        if (now_ms > long_ms) {
+            tt_session_tell(session, TT_LONG_WAIT, (int64_t)session->stamp_ns);
+            long_ms = INT64_MAX;
+        }
         nanosleep(&pause, NULL);
     }
     return 0;

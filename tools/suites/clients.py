@@ -598,6 +598,17 @@ def tests_of_go(trial):
 
 
 @suite.case()
+def tests_of_c(trial):
+    """The tests of C: what conversations and files do not show."""
+    source = os.path.join(CLIENTS, "c", "test", "unit.c")
+    for compiler, *flags in ("gcc", "-std=c11", "-D_POSIX_C_SOURCE=200809L"), ("clang", "-std=gnu11"), ("g++", "-std=c++17", "-x", "c++"):
+        made = build_c(trial.room, compiler, f"unit-{compiler}", *flags, "-pthread", source)
+        if made:
+            ran = run([made, trial.room], seconds=60)
+            trial.check(compiler, ran.status == 0, ran.said + ran.error)
+
+
+@suite.case()
 def tests_of_python(trial):
     """The tests of Python, for asyncio and without: what conversations and files do not show."""
     for name in "aio_test.py", "blocking_test.py":

@@ -26,7 +26,7 @@ CLIENTS = in_top("clients")
 VERSION = "0.3.0"
 POM = "{http://maven.apache.org/POM/4.0.0}"
 # What examples name, and what stands in its place.
-FILE, PORT = "/run/truetime/time", "5601"
+FILE, PORT, OWNER = "/run/truetime/time", "5601", '"truetime"'
 LO, WIDTH = 10**9, 10
 # What a build leaves in a folder is not copied.
 BUILT = shutil.ignore_patterns("__pycache__", "build", "dist", "target", "*.egg-info")
@@ -74,7 +74,8 @@ class Example(typing.NamedTuple):
 
     def beside(self, stand_in):
         """Its text with the file and the port of the stand-in."""
-        return self.text.replace(FILE, stand_in.file).replace(PORT, str(stand_in.server_address[1])) if self.is_run else self.text
+        named = self.text.replace(FILE, stand_in.file).replace(PORT, str(stand_in.server_address[1]))
+        return named.replace(OWNER, '"root"') if self.is_run else self.text
 
 
 def examples_in(document, heading):
@@ -150,7 +151,7 @@ def versions(trial):
     """All name the same version, and no text names another one."""
     named = {
         "python/pyproject.toml": r'^version = "(.*)"$', "rust/Cargo.toml": r'^version = "(.*)"$', "java/pom.xml": r"^  <version>(.*)</version>$",
-        "c/CMakeLists.txt": r"^project\(truetime VERSION (\S+) ", "c/truetime.pc": r"^Version: (.*)$",
+        "python/truetime/__init__.py": r'^__version__ = "(.*)"$', "c/CMakeLists.txt": r"^project\(truetime VERSION (\S+) ", "c/truetime.pc": r"^Version: (.*)$",
     }
     for name, pattern in named.items():
         trial.equal(name, re.findall(pattern, read_text(f"clients/{name}"), re.MULTILINE), [VERSION])

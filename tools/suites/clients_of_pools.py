@@ -28,7 +28,7 @@ from suites.clients_of_openings import Answering, Listening
 from suites.clients_of_waits import wants
 
 # Who has a pool.
-POOLED = {"Python", "Python asyncio", "Go", "Rust"}
+POOLED = {"Python", "Python asyncio", "Rust", "Java", "Go"}
 SIZE, THREADS, EACH = 4, 16, 10
 SHORT_MS = 200
 
