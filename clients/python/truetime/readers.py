@@ -86,7 +86,7 @@ class Client:
     def __init__(self, path: str, owner: Union[int, str], mapped: bool = True) -> None:
         """Opens the file at this path, which the user ``owner``, a name or a number, has to own. Refuses with 1701 and 1702.
 
-        Where it is not ``mapped``, each call reads it. What the system said is the cause of a 1701, and the text of a 1702 says
+        Where it is not ``mapped``, each call reads it; a mapped one keeps a descriptor, too. What the system said is the cause of a 1701, and the text of a 1702 says
         what the file is not.
         """
         if sys.byteorder != "little" or _WORD.size != 8:
