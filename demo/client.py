@@ -1,7 +1,7 @@
 """How a database uses the service: a commit, and what a snapshot waits for, by sessions with the service or by a stamper of its own.
 
 A *place* is a machine of the database. It has `changing`, a lock of its writers, and `write(key, value, stamp)`, which commits in its
-own database and returns once that is durable. A session is a `truetime.Session` with the service of that machine, for one thread. A
+own database and returns once that is durable; within `with place.transaction()` nobody sees it before the end of that. A session is a `truetime.Session` with the service of that machine, for one thread. A
 stamper is a `truetime.Stamper` over that machine's shared file: one for all threads of the place.
 """
 import queue
@@ -45,6 +45,17 @@ def make_readable_by_stamper(place, stamper, moment):
     stamper.wait_past(moment)
     with place.changing:
         pass
+
+
+def commit_behind_wait(place, stamper, key, value):
+    """Writes a value; its stamp. Who reads what is there, without a snapshot, sees it only once its stamp has passed, too. The place has one
+    commit at a time by this."""
+    with place.changing:
+        stamp = stamper.stamp().stamp_ns
+        with place.transaction():
+            place.write(key, value, stamp)
+            stamper.wait_past(stamp)
+    return stamp
 
 
 class Pending:

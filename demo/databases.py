@@ -1,4 +1,5 @@
 """The databases of the demonstration: a table with a row for each version of a key, in SQLite or in PostgreSQL, and the machine's clock."""
+import contextlib
 import glob
 import os
 import shutil
@@ -19,6 +20,7 @@ FAKETIME = os.environ.get("LIBFAKETIME", "/usr/lib/*/faketime/libfaketime.so.1")
 TABLE = "create table versions (key text, stamp bigint, value text, primary key (key, stamp))"
 WRITE = "insert into versions values (?, ?, ?)"
 WRITE_BY_CLOCK = "insert into versions values (?, clock(), ?) returning stamp"
+NEWEST = "select stamp from versions where key = ? order by stamp desc limit 1"
 READ = "select value from versions where key = ? and stamp <= ? order by stamp desc limit 1"
 
 
@@ -45,6 +47,22 @@ class Place:
     def clock(self):
         """The clock of this machine, in nanoseconds."""
         return self.execute("select clock()")[0]
+
+    @contextlib.contextmanager
+    def transaction(self):
+        """What is written in the block is there for others when it ends."""
+        self.execute("begin")
+        try:
+            yield
+        except BaseException:
+            self.execute("rollback")
+            raise
+        self.execute("commit")
+
+    def newest(self, key):
+        """The stamp of the newest version that is there; 0 where there is none."""
+        row = self.execute(NEWEST, key)
+        return row[0] if row else 0
 
     def write(self, key, value, stamp):
         self.execute(WRITE, key, stamp, value)
