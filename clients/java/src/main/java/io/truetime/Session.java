@@ -258,7 +258,7 @@ public final class Session implements AutoCloseable {
     /** Gives the connection up; the exception that says so. */
     private IOException lost(IOException failed) throws IOException {
         if (channel != null) {
-            LOGGER.log(System.Logger.Level.WARNING, "the connection to {0} failed: {1}", address, failed);
+            LOGGER.log(System.Logger.Level.DEBUG, "the connection to {0} failed: {1}", address, failed);
         }
         IOException lost = failed;
         if (isPending()) {

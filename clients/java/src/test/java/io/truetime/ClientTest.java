@@ -172,7 +172,7 @@ public final class ClientTest {
             check(thrown(session::now) instanceof IOException, told);
             check(session.commit(0) == 200, told);
         }
-        List<String> wanted = List.of("FINE before 1: refused 801", "WARNING the connection to ", "FINE connected anew to ",
+        List<String> wanted = List.of("FINE before 1: refused 801", "FINE the connection to ", "FINE connected anew to ",
             "WARNING the commit with timestamp 200 waits for long");
         boolean isSo = told.size() == wanted.size();
         for (int place = 0; isSo && place < told.size(); place++) {
