@@ -7,6 +7,8 @@
         sessions and of the wait for one
     commits THREADS EACH
         commits so often in each of so many threads, without a floor: `N stamps, N different, N errors`
+    alone THREADS EACH
+        the same, where each thread keeps one session for all of its commits
     hold
         takes a session out of the pool, and keeps it: `held`
     begin
@@ -105,6 +107,7 @@ def try_pool(trial, name, probe, server):
     trial.equal(f"{name}: sessions of a new pool", server.opened, 0)
     # One thread after the other has one session, and many threads have as many as there may be.
     said("commits 1 5", "5 stamps, 5 different, 0 errors")
+    said("alone 1 5", "5 stamps, 5 different, 0 errors")
     trial.equal(f"{name}: sessions of one thread", server.opened, 1)
     said(f"commits {THREADS} {EACH}", all_went_well)
     trial.between(f"{name}: sessions of {THREADS} threads", 2, server.most, SIZE)
@@ -182,17 +185,18 @@ def pools_of_machines(trial):
 
 @suite.case()
 def rates_of_pools(trial):
-    """Commits a second by a pool, at 1, 8 and 64 threads: told, not judged."""
+    """Commits a second by a pool with a session for each of 1, 8 and 64 threads, and by threads that keep theirs: told, not judged."""
     machine = trial.fleet({"A": trial.masters(3)}, poll="20ms")["A"]
     for name, words in pool_probes(trial):
-        rates = []
+        rates = {"commits": [], "alone": []}
         for threads in 1, 8, 64:
             with Reader(words, "pool") as probe:
                 each = max(64 // threads, 4)
                 wants(trial, name, probe.say, f"open unix {machine.path('socket')} {threads} 20000", "open")
                 probe.say(f"commits {threads} 1")
-                began = time.monotonic()
-                wants(trial, name, probe.say, f"commits {threads} {each}", f"{threads * each} stamps, {threads * each} different, 0 errors")
-                rates.append(f"{threads * each / (time.monotonic() - began):.0f}")
+                for way, told in rates.items():
+                    began = time.monotonic()
+                    wants(trial, name, probe.say, f"{way} {threads} {each}", f"{threads * each} stamps, {threads * each} different, 0 errors")
+                    told.append(f"{threads * each / (time.monotonic() - began):.0f}")
                 wants(trial, name, probe.say, "close", "closed")
-        trial.note(f"{name}: {' '.join(rates)} commits a second at 1, 8 and 64 threads")
+        trial.note(f"{name}: commits a second at 1, 8 and 64 threads: {' '.join(rates['commits'])} by a pool, {' '.join(rates['alone'])} by sessions")

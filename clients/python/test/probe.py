@@ -1,5 +1,6 @@
 """What the reader answers, for the tests: as ../../c/test/probe.c. `probe.py asyncio` is the same for sessions of truetime.aio."""
 import asyncio
+import contextlib
 import gc
 import inspect
 import os
@@ -170,16 +171,17 @@ def try_stampers(lines):
             print("refused", refused.number, flush=True)
 
 
-def commit_in_threads(pool, threads, each):
+def commit_in_threads(pool, threads, each, is_alone):
     """So many commits in each of so many threads; what they gave."""
     given = []
 
     def commit_on():
-        for _ in range(each):
-            try:
-                given.append(pool.commit())
-            except (truetime.Refused, OSError):
-                given.append(0)
+        with pool.session() if is_alone else contextlib.nullcontext(pool) as by:
+            for _ in range(each):
+                try:
+                    given.append(by.commit())
+                except (truetime.Refused, OSError):
+                    given.append(0)
 
     running = [threading.Thread(target=commit_on) for _ in range(threads)]
     for thread in running:
@@ -189,16 +191,18 @@ def commit_in_threads(pool, threads, each):
     return given
 
 
-async def commit_in_tasks(pool, tasks, each):
+async def commit_in_tasks(pool, tasks, each, is_alone):
     """So many commits in each of so many tasks; what they gave."""
-    async def commit():
+    async def commit(by):
         try:
-            return await pool.commit()
+            return await by.commit()
         except (truetime.Refused, OSError):
             return 0
 
     async def commit_on():
-        return [await commit() for _ in range(each)]
+        async with contextlib.AsyncExitStack() as stack:
+            by = await stack.enter_async_context(pool.session()) if is_alone else pool
+            return [await commit(by) for _ in range(each)]
 
     return [stamp for given in await asyncio.gather(*(commit_on() for _ in range(tasks))) for stamp in given]
 
@@ -232,9 +236,12 @@ class PoolOf:
             self.made(lent.__aexit__(None, None, None) if self.loop else lent.__exit__(None, None, None))
         return "freed"
 
-    def commits(self, threads, each):
+    def alone(self, threads, each):
+        return self.commits(threads, each, True)
+
+    def commits(self, threads, each, is_alone=False):
         commit = commit_in_tasks if self.loop else commit_in_threads
-        given = self.made(commit(self.pool, int(threads), int(each)))
+        given = self.made(commit(self.pool, int(threads), int(each), is_alone))
         stamps = [stamp for stamp in given if stamp]
         return f"{len(stamps)} stamps, {len(set(stamps))} different, {len(given) - len(stamps)} errors"
 

@@ -220,9 +220,15 @@ fn try_stampers() -> io::Result<()> {
     Ok(())
 }
 
-/// So many commits in each of so many threads.
-fn commits(pool: &Pool, [threads, each]: [u64; 2]) -> String {
-    let commit_on = || -> Vec<Result<u64, Error>> { (0..each).map(|_| pool.commit(0)).collect() };
+/// So many commits in each of so many threads; each keeps one session where it is alone.
+fn commits(pool: &Pool, [threads, each]: [u64; 2], is_alone: bool) -> String {
+    let commit_on = || -> Vec<Result<u64, Error>> {
+        if is_alone {
+            let mut session = pool.get().expect("a session");
+            return (0..each).map(|_| session.commit(0)).collect();
+        }
+        (0..each).map(|_| pool.commit(0)).collect()
+    };
     let given: Vec<_> = thread::scope(|scope| {
         let running: Vec<_> = (0..threads).map(|_| scope.spawn(commit_on)).collect();
         running.into_iter().flat_map(|thread| thread.join().expect("a thread")).collect()
@@ -237,7 +243,7 @@ fn commits(pool: &Pool, [threads, each]: [u64; 2]) -> String {
 /// Makes a call of a pool, and gives what it gives.
 fn call_pool<'a>(pool: &'a Pool, out: &mut Vec<Pooled<'a>>, name: &str, rest: &str) -> Result<String, Error> {
     match name {
-        "commits" => return Ok(commits(pool, numbers_of(rest))),
+        "commits" | "alone" => return Ok(commits(pool, numbers_of(rest), name == "alone")),
         "hold" => out.push(pool.get()?),
         "begin" => return out.last_mut().ok_or(Error::NoCommit)?.begin(0).map(|stamp| stamp.to_string()),
         "free" => out.clear(),

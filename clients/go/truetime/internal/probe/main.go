@@ -288,7 +288,8 @@ func (p *pooled) hold() (string, error) {
 	return "held", err
 }
 
-func (p *pooled) commits(goroutines, each int) string {
+// commits commits so often in each of so many goroutines; each keeps one session where it is alone.
+func (p *pooled) commits(goroutines, each int, isAlone bool) string {
 	var all sync.WaitGroup
 	var mutex sync.Mutex
 	stamps, different, errs := 0, map[int64]bool{}, 0
@@ -296,9 +297,18 @@ func (p *pooled) commits(goroutines, each int) string {
 		all.Add(1)
 		go func() {
 			defer all.Done()
+			commit := p.Commit
+			if isAlone {
+				session, err := p.Get(context.Background())
+				if err != nil {
+					panic(err)
+				}
+				defer p.Put(session)
+				commit = session.Commit
+			}
 			for turn := 0; turn < each; turn++ {
 				ctx, cancel := context.WithTimeout(context.Background(), p.timeout)
-				stamp, err := p.Commit(ctx, 0)
+				stamp, err := commit(ctx, 0)
 				cancel()
 				mutex.Lock()
 				if err != nil {
@@ -317,8 +327,8 @@ func (p *pooled) commits(goroutines, each int) string {
 
 func (p *pooled) call(words []string) (string, error) {
 	switch words[0] {
-	case "commits":
-		return p.commits(int(number(words[1])), int(number(words[2]))), nil
+	case "commits", "alone":
+		return p.commits(int(number(words[1])), int(number(words[2])), words[0] == "alone"), nil
 	case "hold":
 		return p.hold()
 	case "begin":

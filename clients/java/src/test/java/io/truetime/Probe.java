@@ -263,19 +263,39 @@ public final class Probe {
         }
     }
 
-    /** So many commits in each of so many threads. */
-    private static String commits(Pool pool, int threads, int each) throws InterruptedException {
+    /** So many commits by a pool. */
+    private static void commitOn(Pool pool, int each, Queue<Long> stamps, AtomicInteger errors) {
+        for (int turn = 0; turn < each; turn++) {
+            try {
+                stamps.add(pool.commit(0));
+            } catch (IOException | InterruptedException | TrueTime.Refused failed) {
+                errors.incrementAndGet();
+            }
+        }
+    }
+
+    /** So many by one session of it. */
+    private static void commitAlone(Pool pool, int each, Queue<Long> stamps, AtomicInteger errors) {
+        try (Pool.Lent lent = pool.lend()) {
+            for (int turn = 0; turn < each; turn++) {
+                stamps.add(lent.session().commit(0));
+            }
+        } catch (IOException | InterruptedException | TrueTime.Refused failed) {
+            errors.incrementAndGet();
+        }
+    }
+
+    /** So many commits in each of so many threads; each keeps one session where it is alone. */
+    private static String commits(Pool pool, int threads, int each, boolean isAlone) throws InterruptedException {
         ExecutorService running = Executors.newFixedThreadPool(threads);
         Queue<Long> stamps = new ConcurrentLinkedQueue<>();
         AtomicInteger errors = new AtomicInteger();
         for (int thread = 0; thread < threads; thread++) {
             running.execute(() -> {
-                for (int turn = 0; turn < each; turn++) {
-                    try {
-                        stamps.add(pool.commit(0));
-                    } catch (IOException | InterruptedException | TrueTime.Refused failed) {
-                        errors.incrementAndGet();
-                    }
+                if (isAlone) {
+                    commitAlone(pool, each, stamps, errors);
+                } else {
+                    commitOn(pool, each, stamps, errors);
                 }
             });
         }
@@ -288,7 +308,8 @@ public final class Probe {
     private static String pooled(Pool pool, Deque<Pool.Lent> out, String[] words) throws IOException, InterruptedException {
         switch (words[0]) {
             case "commits":
-                return commits(pool, Integer.parseInt(words[1]), Integer.parseInt(words[2]));
+            case "alone":
+                return commits(pool, Integer.parseInt(words[1]), Integer.parseInt(words[2]), words[0].equals("alone"));
             case "hold":
                 out.push(pool.lend());
                 return "held";
