@@ -11,7 +11,7 @@ import (
 	"time"
 )
 
-// releasing serves sessions that release each commit at its second line, and gives its address.
+// releasing serves sessions that release each commit at its second line, refuse each before, and end at a now; its address.
 func releasing(t *testing.T) string {
 	t.Helper()
 	listener, err := net.Listen("tcp", "127.0.0.1:0")
@@ -31,12 +31,12 @@ func releasing(t *testing.T) string {
 				buffer := make([]byte, 100)
 				for {
 					n, err := conn.Read(buffer)
-					if err != nil {
+					if err != nil || strings.HasPrefix(string(buffer[:n]), "now") {
 						return
 					}
-					if strings.HasPrefix(string(buffer[:n]), "now") {
+					if strings.HasPrefix(string(buffer[:n]), "before") {
 						s.say("refused 801")
-						return
+						continue
 					}
 					word = map[string]string{"waiting": "committed", "committed": "waiting"}[word]
 					s.say(word + " " + strings.Fields(string(buffer[:n]))[1] + " 200")
@@ -123,12 +123,13 @@ func TestLogger(t *testing.T) {
 	logger := &told{}
 	session.SetLogger(logger)
 	session.Commit(always, 0)
+	session.Before(always, 1)
 	session.Now(always)
 	session.Commit(always, 0)
 	session.SetLogger(nil)
 	session.Now(always)
-	wanted := []string{"warn truetime: the connection failed", "info truetime: connected anew", "info truetime: refused",
-		"warn truetime: the connection failed", "info truetime: connected anew"}
+	wanted := []string{"info truetime: connected anew", "info truetime: refused", "warn truetime: the connection failed",
+		"info truetime: connected anew"}
 	if strings.Join(logger.texts, "\n") != strings.Join(wanted, "\n") {
 		t.Error(logger.texts)
 	}
