@@ -207,7 +207,7 @@ def try_stamps(said, shared, path):
         word, *numbers = said(f"stamp {floor}").split()
         return [int(number) if number.isdigit() else number for number in numbers] if word == "stamp" else [word, *numbers]
 
-    yield "open", said(f"open {path} 0 {MAX}"), "open"
+    yield "open", said(f"open {path} 0 {MAX} {AHEAD} 1"), "open"
     shared.publish(early=300, late=500, until=1, epoch=NO_LIMIT)
     begun = shared.now()
     given, earliest, latest, fresh, epoch = stamp(0)
@@ -228,6 +228,50 @@ def try_stamps(said, shared, path):
     yield "open at the end of time", said(f"open {path} {MAX} {MAX}"), "open"
     yield "the greatest time", stamp(0)[:1], [MAX]
     yield "used up", said("stamp 0"), "refused 901"
+
+
+def try_limits(said, shared, path):
+    """What a stamper has beside the rule: how far a floor may be ahead, a grid, a lease that is extended, what stamps are above, and a wait by
+    steps."""
+    def stamp(floor):
+        return said(f"stamp {floor}").split(" ")[:2]
+
+    shared.publish(early=300, late=500)
+    yield "open as it comes", said(f"open {path} 0 {MAX}"), "open"
+    yield "a floor two seconds ahead", said(f"stamp {shared.now() + 2 * SECOND}"), "refused 902"
+    floor = shared.now() + 9 * SECOND // 10
+    yield "a floor less than a second ahead", stamp(floor), ["stamp", str(floor)]
+    yield "open with a limit of three seconds", said(f"open {path} 0 {MAX} {3 * SECOND} 1"), "open"
+    yield "a floor four seconds ahead", said(f"stamp {shared.now() + 4 * SECOND}"), "refused 902"
+    floor = shared.now() + 2 * SECOND
+    yield "a floor two seconds ahead of three", stamp(floor), ["stamp", str(floor)]
+    # The grid.
+    yield "open with a grid", said(f"open {path} 0 {MAX} {AHEAD} 1000"), "open"
+    floor = (shared.now() + 5 * SECOND) // 1000 * 1000
+    for asked, answer in (floor + 1, floor + 1000), (0, floor + 2000), (floor + 3000, floor + 3000), (floor + 3999, floor + 4000):
+        yield f"floor {asked - floor}", stamp(asked), ["stamp", str(answer)]
+    low = floor + 60 * SECOND
+    for lo, hi, answer in (low + 1, low + 999, "refused 903"), (low - 999, low, f"stamp {low}"), (MAX - 999, MAX, f"stamp {MAX}"):
+        yield f"open {lo - low} {hi - low}", said(f"open {path} {lo} {hi} {AHEAD} 1000"), "open"
+        yield f"within {lo - low} {hi - low}", " ".join(stamp(0)), answer
+    # The lease.
+    yield "open with a lease", said(f"open {path} {low} {low + 1}"), "open"
+    for line, answer in [("stamp 0", f"stamp {low}"), (f"extend {low - 9}", "extended"), ("stamp 0", f"stamp {low + 1}"), ("stamp 0", "refused 903"),
+                         (f"extend {low + 3}", "extended"), (f"extend {low + 2}", "extended"), ("stamp 0", f"stamp {low + 2}"),
+                         ("stamp 0", f"stamp {low + 3}"), ("stamp 0", "refused 903"), (f"extend {MAX + 1}", "refused 102"), ("stamp 0", "refused 903"),
+                         (f"extend {MAX}", "extended"), (f"above {low + 99}", "risen"), ("stamp 0", f"stamp {low + 100}"), (f"above {low + 99}", "risen"),
+                         ("stamp 0", f"stamp {low + 101}"), (f"above {MAX + 1}", "refused 102"), ("stamp 0", f"stamp {low + 102}"),
+                         (f"above {MAX}", "risen"), ("stamp 0", "refused 901")]:
+        yield line, " ".join(said(line).split(" ")[:2]), answer
+    # The step of a wait.
+    yield "what has passed", said("left 0"), "0"
+    yield "what is far ahead", (said(f"left {shared.now() + 60 * SECOND}"), said(f"left {NO_LIMIT}")), ("50000000", "50000000")
+    left = int(said(f"left {shared.now() + SECOND // 25}"))
+    yield "what is less than 50 ms ahead", left == 0 or left <= SECOND // 25 + 301, True
+    shared.publish(clock=(clock := time.monotonic_ns()), ahead=MAX - shared.offset - clock)
+    yield "the greatest time", (said(f"left {MAX}"), said(f"left {MAX - 1}")), ("1", "0")
+    shared.clear()
+    yield "nothing published", said("left 0"), "refused 801"
 
 
 def timed(said, line, least_ms, most_ms, more_ms=1000):
@@ -281,7 +325,7 @@ def stampers(trial):
         with Shared(path) as shared, Reader(words, "stamper") as probe:
             late = threading.Timer(120, probe.probe.kill)
             late.start()
-            for what, came, answer in (each for some in (try_refusals, try_stamps, try_waits) for each in some(probe.say, shared, path)):
+            for what, came, answer in (each for some in (try_refusals, try_stamps, try_limits, try_waits) for each in some(probe.say, shared, path)):
                 checks += 1
                 trial.check(name, came == answer, f"{what}: {came} in place of {answer}")
             late.cancel()
@@ -316,7 +360,7 @@ def publishing(path):
 def stamps_of(words, path, lease, floor, shared):
     """The stamps of the probe's threads, by thread; how many stamps were refused with each number; and what is wrong."""
     threads, refused, wrong, begun = [[] for _ in range(THREADS)], {}, [], shared.now()
-    ran = run([*words, "stamper"], f"open {path} {lease[0]} {lease[1]}\nthreads {THREADS} {EACH} {floor}\n".encode(), 120)
+    ran = run([*words, "stamper"], f"open {path} {lease[0]} {lease[1]} {AHEAD} 1\nthreads {THREADS} {EACH} {floor}\n".encode(), 120)
     said, ended = ran.said.splitlines(), shared.now()
     if ran.status != 0 or said[:1] != ["open"] or said[-1:] != ["end"] or len(said) != THREADS * EACH + 2:
         return threads, refused, [f"status {ran.status}, and {len(said)} lines, the last one {said[-1:]}: {ran.error[:1000]}"]

@@ -187,6 +187,7 @@ static void print_row(uint64_t last, const tt_reading *reading, uint64_t floor_n
     uint64_t stamp_ns = 0, free_ns = last == 0 ? 0 : last + 1;
     int refused = tt_stamper_open(&stamper, NULL, lease_lo_ns, lease_hi_ns);
     stamper.least_free_ns = free_ns;
+    tt_stamper_limit(&stamper, TT_MAX_AHEAD_NS, 1);
     if (refused == 0) refused = tt_stamper_stamp_at(&stamper, reading, floor_ns, &stamp_ns);
     if (stamper.least_free_ns != (refused == 0 ? stamp_ns + 1 : free_ns) || (refused != 0 && stamp_ns != 0))
         puts("wrong");
@@ -256,10 +257,11 @@ static void print_is_past(int refused, bool is_past) {
 }
 
 /* Closes the client, and opens it and the stamper anew. */
-static void open_stamper(tt_client *client, tt_stamper *stamper, const char *path, uint64_t lease_lo_ns, uint64_t lease_hi_ns) {
+static void open_stamper(tt_client *client, tt_stamper *stamper, const char *path, const uint64_t lease[2], const uint64_t limits[2]) {
     tt_close(client);
     int refused = tt_open(client, path, geteuid());
-    if (refused == 0) refused = tt_stamper_open(stamper, client, lease_lo_ns, lease_hi_ns);
+    if (refused == 0) refused = tt_stamper_open(stamper, client, lease[0], lease[1]);
+    if (refused == 0 && limits[1] != 0) refused = tt_stamper_limit(stamper, limits[0], limits[1]);
     if (refused != 0)
         printf("refused %d\n", refused);
     else
@@ -286,6 +288,15 @@ static void call_stamper(tt_stamper *stamper, const char *line) {
     } else if (sscanf(line, "past %" SCNu64, &number) == 1) {
         int refused = tt_stamper_is_past(stamper, number, &is_past);
         print_is_past(refused, is_past);
+    } else if (sscanf(line, "extend %" SCNu64, &number) == 1) {
+        int refused = tt_stamper_extend(stamper, number);
+        refused == 0 ? puts("extended") : printf("refused %d\n", refused);
+    } else if (sscanf(line, "above %" SCNu64, &number) == 1) {
+        int refused = tt_stamper_rise_above(stamper, number);
+        refused == 0 ? puts("risen") : printf("refused %d\n", refused);
+    } else if (sscanf(line, "left %" SCNu64, &number) == 1) {
+        int refused = tt_stamper_left(stamper, number, &more);
+        refused == 0 ? printf("%" PRIu64 "\n", more) : printf("refused %d\n", refused);
     } else if (sscanf(line, "wait %" SCNu64 "%" SCNu64, &number, &more) == 2 && tt_clock(&clock_ns) == 0) {
         int refused = tt_stamper_wait_past(stamper, number, clock_ns + more * 1000000, &is_past);
         print_is_past(refused, is_past);
@@ -301,7 +312,7 @@ static int try_stampers(void) {
     tt_stamper stamper;
     tt_reading reading;
     char line[512], path[256];
-    uint64_t last, floor_ns, lo_ns, hi_ns;
+    uint64_t last, floor_ns, lo_ns, hi_ns, lease[2];
     memset(&client, 0, sizeof client);
     memset(&reading, 0, sizeof reading);
     tt_stamper_open(&stamper, &client, 0, TT_MAX_TIME_NS);
@@ -309,9 +320,11 @@ static int try_stampers(void) {
         if (sscanf(line, "row %" SCNu64 "%" SCNu64 "%" SCNu64 "%" SCNu64 "%" SCNu64 "%" SCNu64, &last, &reading.earliest_ns,
                    &reading.latest_ns, &floor_ns, &lo_ns, &hi_ns) == 6)
             print_row(last, &reading, floor_ns, lo_ns, hi_ns);
-        else if (sscanf(line, "open %255s%" SCNu64 "%" SCNu64, path, &lo_ns, &hi_ns) == 3)
-            open_stamper(&client, &stamper, path, lo_ns, hi_ns);
-        else
+        else if (strncmp(line, "open ", 5) == 0) {
+            uint64_t limits[2] = {0, 0};
+            if (sscanf(line, "open %255s%" SCNu64 "%" SCNu64 "%" SCNu64 "%" SCNu64, path, lease, lease + 1, limits, limits + 1) >= 3)
+                open_stamper(&client, &stamper, path, lease, limits);
+        } else
             call_stamper(&stamper, line);
         fflush(stdout);
     }

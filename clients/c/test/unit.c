@@ -1,10 +1,14 @@
+#define _DEFAULT_SOURCE /* for MAP_ANONYMOUS */
+
 /* Tests of what no probe shows: owners by name, causes, names of hosts, and observers. The folder to work in is its argument. */
 #include "../truetime.h"
 #include "../truetime_session.h"
+#include "../truetime_stamper.h"
 
 #include <arpa/inet.h>
 #include <pthread.h>
 #include <stdlib.h>
+#include <sys/wait.h>
 
 static int checks, wrong;
 
@@ -49,6 +53,72 @@ static void try_causes(const char *path) {
     tt_close(&client);
     check(tt_open(&client, "/none/such", geteuid()) == TT_NO_FILE && client.cause == ENOENT, "a file that is not there");
     check(strcmp(tt_cause(&client), strerror(ENOENT)) == 0, tt_cause(&client));
+}
+
+enum { PROCESSES = 4, EACH = 20000 };
+
+/* What processes share: the word of their stamper, and the stamps that each was given. */
+typedef struct shared {
+    tt_atomic word;
+    uint64_t stamps[PROCESSES][EACH];
+} shared;
+
+static int compared(const void *one, const void *other) {
+    uint64_t a = *(const uint64_t *)one, b = *(const uint64_t *)other;
+    return a < b ? -1 : a > b;
+}
+
+/* Publishes the true time as from 1 s to 1 s and a nanosecond, as it is now. */
+static void publish(const char *path) {
+    uint64_t slot[9] = {1, 0, 1000000000, 1000000001, UINT64_MAX, 7, 1, 0, UINT64_MAX}, index = 1;
+    tt_clock(&slot[1]);
+    FILE *file = fopen(path, "r+");
+    if (file == NULL || fseek(file, 8 * (TT_FIRST_SLOT + TT_SLOT_WORDS), SEEK_SET) != 0 || fwrite(slot, sizeof slot, 1, file) != 1 ||
+        fseek(file, 8 * TT_INDEX_WORD, SEEK_SET) != 0 || fwrite(&index, sizeof index, 1, file) != 1)
+        exit(3);
+    fclose(file);
+}
+
+/* Stampers of several processes over one word: all stamps differ, those of each process rise, and all are above what a log had. */
+static void try_processes(const char *path) {
+    const uint64_t above = UINT64_C(5000000000);
+    tt_client client;
+    tt_stamper stamper;
+    write_file(path, TT_BYTES, -1, 0644);
+    publish(path);
+    shared *all = (shared *)mmap(NULL, sizeof *all, PROT_READ | PROT_WRITE, MAP_SHARED | MAP_ANONYMOUS, -1, 0);
+    if (all == MAP_FAILED || tt_open(&client, path, geteuid()) != 0 || tt_stamper_open(&stamper, &client, 0, TT_MAX_TIME_NS) != 0) exit(3);
+    tt_stamper_share(&stamper, &all->word);
+    check(tt_stamper_rise_above(&stamper, above) == 0, "above a log");
+    for (int process = 0; process < PROCESSES; process++) {
+        pid_t child = fork();
+        if (child < 0) exit(3);
+        if (child > 0) continue;
+        for (int turn = 0; turn < EACH; turn++) {
+            tt_stamp stamp;
+            if (tt_stamper_stamp(&stamper, 0, &stamp) != 0) _exit(1);
+            all->stamps[process][turn] = stamp.stamp_ns;
+        }
+        _exit(0);
+    }
+    for (int process = 0, status = 0; process < PROCESSES; process++) check(wait(&status) > 0 && status == 0, "a process that stamps");
+    bool is_rising = true, is_above = true, is_different = true;
+    for (int process = 0; process < PROCESSES; process++)
+        for (int turn = 0; turn < EACH; turn++) {
+            is_above = is_above && all->stamps[process][turn] > above;
+            is_rising = is_rising && (turn == 0 || all->stamps[process][turn - 1] < all->stamps[process][turn]);
+        }
+    qsort(all->stamps, PROCESSES * EACH, sizeof(uint64_t), compared);
+    for (int place = 1; place < PROCESSES * EACH; place++)
+        is_different = is_different && all->stamps[0][place - 1] != all->stamps[0][place];
+    check(is_above, "stamps above what a log had");
+    check(is_rising, "stamps of each process rise");
+    check(is_different, "no two stamps are the same");
+    munmap(all, sizeof *all);
+    check(tt_stamper_limit(&stamper, TT_MAX_AHEAD_NS + 1, 1) == -EINVAL && stamper.ahead_ns == TT_AHEAD_NS, "a limit that is too great");
+    check(tt_stamper_limit(&stamper, 0, 0) == -EINVAL && tt_stamper_limit(&stamper, 0, TT_MAX_GRID_NS + 1) == -EINVAL, "no grid");
+    check(stamper.grid_ns == 1 && tt_stamper_limit(&stamper, 0, TT_MAX_GRID_NS) == 0, "the widest grid");
+    tt_close(&client);
 }
 
 static void try_users(void) {
@@ -135,6 +205,7 @@ int main(int count, char **arguments) {
     snprintf(path, sizeof path, "%s/time", arguments[1]);
     try_causes(path);
     try_users();
+    try_processes(path);
     try_sessions();
     unlink(path);
     printf("%d checks, %d wrong\n", checks, wrong);

@@ -96,6 +96,8 @@ var (
 	ErrBadLine = errors.New("truetime: the line is too long, or has a byte that is not printable")
 	// ErrNegative is the error of a call that was given a negative time. Nothing was sent.
 	ErrNegative = errors.New("truetime: a time is negative")
+	// ErrLimits is the error of SetLimits.
+	ErrLimits = errors.New("truetime: a floor may be ahead by MaxAhead at most, and the grid is from a nanosecond to MaxGrid")
 	// ErrPoolClosed is the error of a Pool that was closed.
 	ErrPoolClosed = errors.New("truetime: the pool is closed")
 	// ErrReply is within a BrokenError where what came is no reply.

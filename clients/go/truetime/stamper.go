@@ -6,8 +6,14 @@ import (
 	"time"
 )
 
-// MaxAhead is how far a floor may lie ahead of the reading's latest, in nanoseconds: ten seconds.
-const MaxAhead = 10_000_000_000
+const (
+	// MaxAhead is the most that a floor may lie ahead of the reading's latest, in nanoseconds: ten seconds.
+	MaxAhead = 10_000_000_000
+	// Ahead is how far it may, unless SetLimits says otherwise: a second, as for sessions.
+	Ahead = 1_000_000_000
+	// MaxGrid is the widest grid, in nanoseconds: a second.
+	MaxGrid = 1_000_000_000
+)
 
 // longestSleep is the longest one before the next look: a newer publication may have a later earliest.
 const longestSleep = 50 * time.Millisecond
@@ -24,10 +30,18 @@ type Lease struct {
 // It refuses, in this order, with FloorTooFar where the floor is more than MaxAhead above the latest, with UsedUp where there
 // is no such number, and with LeaseOver where it is above the upper end of the lease. The timestamp is 0 then.
 func (l Lease) StampOf(free, latest, floor int64) (int64, error) {
-	if floor > latest && floor-latest > MaxAhead {
+	return l.stampOf(free, latest, floor, MaxAhead, 1)
+}
+
+// stampOf is StampOf with how far the floor may be ahead, and on a grid.
+func (l Lease) stampOf(free, latest, floor, ahead, grid int64) (int64, error) {
+	if floor > latest && floor-latest > ahead {
 		return 0, FloorTooFar
 	}
 	stamp := later(later(latest, floor), later(l.Lo, free))
+	if grid > 1 {
+		stamp += (grid - stamp%grid) % grid
+	}
 	if stamp > MaxTime {
 		return 0, UsedUp
 	}
@@ -64,14 +78,22 @@ type Stamp struct {
 // the time. Stamp the first commit with a floor above the greatest timestamp of the log (FloorTooFar says that this is still
 // too far ahead: wait), or make the stamper with a lease that begins above it, or a new one.
 type Stamper struct {
-	client *Client
-	lease  Lease
-	free   atomic.Int64 // the least number above all timestamps given: 0, or one more than the last one
+	client      *Client
+	lo          int64        // the lower end of the lease
+	hi          atomic.Int64 // and the upper one
+	ahead, grid int64
+	free        atomic.Int64 // the least number above all timestamps given: 0, or one more than the last one
+}
+
+func newStamper(client *Client, lease Lease) *Stamper {
+	s := &Stamper{client: client, lo: lease.Lo, ahead: Ahead, grid: 1}
+	s.hi.Store(lease.Hi)
+	return s
 }
 
 // NewStamper gives a stamper by this client, with the whole of time as its lease. It has given no timestamp.
 func NewStamper(client *Client) *Stamper {
-	return &Stamper{client: client, lease: Lease{0, MaxTime}}
+	return newStamper(client, Lease{0, MaxTime})
 }
 
 // NewStamperWithLease is NewStamper with a lease. It fails with ErrNegative, and refuses with LeaseBackwards where the ends of
@@ -86,10 +108,45 @@ func NewStamperWithLease(client *Client, lease Lease) (*Stamper, error) {
 	if lease.Hi > MaxTime {
 		return nil, LeasePastMax
 	}
-	return &Stamper{client: client, lease: lease}, nil
+	return newStamper(client, lease), nil
 }
 
-// Stamp gives the timestamp of a commit: the least that is no less than the latest of a reading taken in this call, the floor
+// SetLimits sets how far a floor may lie ahead of the latest, MaxAhead at most, since it moves all later timestamps, too; and of
+// what timestamps are multiples, MaxGrid at most: a microsecond where a database keeps these. Call it before other goroutines use
+// the stamper. It fails with ErrLimits for other lengths, and then nothing changes.
+func (s *Stamper) SetLimits(ahead, grid time.Duration) error {
+	if ahead < 0 || ahead > MaxAhead || grid < 1 || grid > MaxGrid {
+		return ErrLimits
+	}
+	s.ahead, s.grid = int64(ahead), int64(grid)
+	return nil
+}
+
+// Extend has the lease end later, while other goroutines stamp. It never ends earlier by this. It fails with ErrNegative, and
+// refuses with LeasePastMax.
+func (s *Stamper) Extend(hi int64) error { return raise(&s.hi, hi, hi) }
+
+// RiseAbove has all timestamps from now on be above this time, as above the greatest in a log. It fails with ErrNegative, and
+// refuses with LeasePastMax.
+func (s *Stamper) RiseAbove(t int64) error { return raise(&s.free, t, t+1) }
+
+// raise raises a number to another one, by a time that it is checked by.
+func raise(word *atomic.Int64, t, number int64) error {
+	if t < 0 {
+		return ErrNegative
+	}
+	if t > MaxTime {
+		return LeasePastMax
+	}
+	for found := word.Load(); found < number; found = word.Load() {
+		if word.CompareAndSwap(found, number) {
+			break
+		}
+	}
+	return nil
+}
+
+// Stamp gives the timestamp of a commit: the least on the grid that is no less than the latest of a reading taken in this call, the floor
 // and the lower end of the lease, and above every timestamp that this stamper gave before. It lies in the lease.
 //
 // It fails with ErrNegative, and refuses as Client.Now, then as Lease.StampOf. After a refusal nothing is used up. By a mapped file it makes no system call
@@ -104,7 +161,7 @@ func (s *Stamper) Stamp(floor int64) (Stamp, error) {
 	}
 	for {
 		free := s.free.Load()
-		stamp, err := s.lease.StampOf(free, now.Latest, floor)
+		stamp, err := Lease{s.lo, s.hi.Load()}.stampOf(free, now.Latest, floor, s.ahead, s.grid)
 		if err != nil {
 			return Stamp{Reading: Reading{Interval: allTimes}}, err
 		}
@@ -124,6 +181,19 @@ func (s *Stamper) IsPast(stamp int64) (bool, error) {
 	return now.After(stamp), nil
 }
 
+// Left is one step of WaitPast, for who has to look at something else meanwhile: 0 where a timestamp has surely passed, or else how
+// long to sleep before the next look, at most 50 milliseconds. It refuses as Client.Now.
+func (s *Stamper) Left(stamp int64) (time.Duration, error) {
+	now, err := s.client.Now()
+	if err != nil || now.After(stamp) {
+		return 0, err
+	}
+	if ahead := stamp - now.Earliest; ahead < int64(longestSleep) {
+		return time.Duration(ahead) + 1, nil
+	}
+	return longestSleep, nil
+}
+
 // WaitPast sleeps until a timestamp has surely passed, and says true, or until the context ends, and says false, with the
 // context's error. It takes a reading before the first sleep and after each, also once the context has ended, and sleeps as
 // long as the timestamp is ahead of the earliest, at most 50 milliseconds at once.
@@ -131,19 +201,15 @@ func (s *Stamper) IsPast(stamp int64) (bool, error) {
 // It refuses as Client.Now, at once. The timestamp is as it was after each error: wait again.
 func (s *Stamper) WaitPast(ctx context.Context, stamp int64) (bool, error) {
 	for {
-		now, err := s.client.Now()
+		sleep, err := s.Left(stamp)
 		if err != nil {
 			return false, err
 		}
-		if now.After(stamp) {
+		if sleep == 0 {
 			return true, nil
 		}
 		if err := ctx.Err(); err != nil {
 			return false, err
-		}
-		sleep := longestSleep
-		if ahead := stamp - now.Earliest; ahead < int64(longestSleep) {
-			sleep = time.Duration(ahead) + 1
 		}
 		timer := time.NewTimer(sleep)
 		select {

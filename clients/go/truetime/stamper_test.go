@@ -1,6 +1,9 @@
 package truetime
 
-import "testing"
+import (
+	"testing"
+	"time"
+)
 
 // TestStampOf is the rule by values worked out by hand: the least free number, the latest, the floor, the lease, the answer.
 func TestStampOf(t *testing.T) {
@@ -71,6 +74,21 @@ func TestLeasesOfStampers(t *testing.T) {
 		if stamper, err := NewStamperWithLease(new(Client), lease); err != want || (stamper == nil) != (want != nil) {
 			t.Error(lease, stamper, err)
 		}
+	}
+}
+
+func TestLimitsOfStampers(t *testing.T) {
+	stamper := NewStamper(new(Client))
+	for _, limits := range [][2]time.Duration{{-1, 1}, {MaxAhead + 1, 1}, {0, 0}, {0, MaxGrid + 1}} {
+		if err := stamper.SetLimits(limits[0], limits[1]); err != ErrLimits || stamper.ahead != Ahead || stamper.grid != 1 {
+			t.Error(limits, err)
+		}
+	}
+	if err := stamper.SetLimits(MaxAhead, MaxGrid); err != nil {
+		t.Error(err)
+	}
+	if stamper.Extend(-1) != ErrNegative || stamper.RiseAbove(-1) != ErrNegative {
+		t.Error("a negative time is none")
 	}
 }
 

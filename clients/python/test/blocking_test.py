@@ -69,6 +69,12 @@ class Files(unittest.TestCase):
             refused = self.refusal()
             self.assertEqual((refused.number, str(refused).partition("clock: ")[2]), (1702, why))
 
+    def test_limits_of_stampers(self):
+        for limits in {"ahead_ns": -1}, {"ahead_ns": truetime.MAX_AHEAD_NS + 1}, {"grid_ns": 0}, {"grid_ns": truetime.MAX_GRID_NS + 1}:
+            with self.assertRaises(ValueError):
+                truetime.Stamper(None, **limits)
+        truetime.Stamper(None, ahead_ns=truetime.MAX_AHEAD_NS, grid_ns=truetime.MAX_GRID_NS)
+
     def test_a_closed_client_refuses(self):
         for mapped in (True, False):
             client = truetime.Client(self.path, os.geteuid(), mapped)

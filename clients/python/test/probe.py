@@ -104,7 +104,7 @@ def try_sessions(kind, calls):
 
 def answer_row(numbers):
     last, lo, hi, floor, lease_lo, lease_hi = numbers
-    with_last = truetime.Stamper(None, lease_lo, lease_hi)
+    with_last = truetime.Stamper(None, lease_lo, lease_hi, ahead_ns=truetime.MAX_AHEAD_NS)
     with_last._least_free_ns = last + 1 if last else 0
     before = with_last._least_free_ns
     try:
@@ -147,6 +147,14 @@ def call_stamper(stamper, name, rest):
         return [answer_row(map(int, rest.split()))]
     if name == "stamp":
         return [said_of(stamper.stamp(int(rest)))]
+    if name == "extend":
+        stamper.extend(int(rest))
+        return ["extended"]
+    if name == "above":
+        stamper.rise_above(int(rest))
+        return ["risen"]
+    if name == "left":
+        return [stamper.left_ns(int(rest))]
     if name == "past":
         return ["yes" if stamper.is_past(int(rest)) else "no"]
     if name == "wait":
@@ -161,9 +169,10 @@ def try_stampers(lines):
         name, _, rest = line.rstrip("\n").partition(" ")
         try:
             if name == "open":
-                path, lease_lo, lease_hi = rest.split(" ")
+                path, lease_lo, lease_hi, *more = rest.split(" ")
                 client = truetime.Client(path, os.geteuid())
-                stamper = truetime.Stamper(client, int(lease_lo), int(lease_hi))
+                limits = dict(zip(("ahead_ns", "grid_ns"), map(int, more)))
+                stamper = truetime.Stamper(client, int(lease_lo), int(lease_hi), **limits)
                 print("open", flush=True)
             else:
                 print(*call_stamper(stamper, name, rest), sep="\n", flush=True)

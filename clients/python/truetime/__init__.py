@@ -38,16 +38,18 @@ from .pools import Pool
 from .readers import MAX_DRIFT_PPM, Client, Publication, Reading
 from .refusals import MAX_TIME_NS, CommitPending, Refused, SessionLost
 from .sessions import Session
-from .stampers import MAX_AHEAD_NS, Stamp, Stamper
+from .stampers import AHEAD_NS, MAX_AHEAD_NS, MAX_GRID_NS, Stamp, Stamper
 
 __version__ = "0.3.0"
 
 logging.getLogger("truetime").addHandler(logging.NullHandler())
 
 __all__ = [
+    "AHEAD_NS",
     "LONG_WAIT_S",
     "MAX_AHEAD_NS",
     "MAX_DRIFT_PPM",
+    "MAX_GRID_NS",
     "MAX_TIME_NS",
     "TIMEOUT_S",
     "Client",

@@ -174,9 +174,14 @@ fn numbers_of<const COUNT: usize>(line: &str) -> [u64; COUNT] {
 
 fn open_stamper(rest: &str) -> Result<Stamper, Error> {
     let words: Vec<&str> = rest.split(' ').collect();
-    let [path, ends @ ..] = &words[..] else { panic!("three words") };
-    let [lo_ns, hi_ns] = numbers_of(&ends.join(" "));
-    Ok(Stamper::with_lease(Client::open(path, user())?, Lease::new(lo_ns, hi_ns)?))
+    let [path, lo_ns, hi_ns, limits @ ..] = &words[..] else { panic!("three words") };
+    let [lo_ns, hi_ns] = numbers_of(&format!("{lo_ns} {hi_ns}"));
+    let stamper = Stamper::with_lease(Client::open(path, user())?, Lease::new(lo_ns, hi_ns)?);
+    if limits.is_empty() {
+        return Ok(stamper);
+    }
+    let [ahead_ns, grid_ns] = numbers_of(&limits.join(" "));
+    stamper.limited(ahead_ns, grid_ns)
 }
 
 /// Makes a call of a stamper, and gives what it gives.
@@ -194,6 +199,18 @@ fn call_stamper(open: &mut Option<Stamper>, name: &str, rest: &str) -> Result<St
         "stamp" => {
             let [floor_ns] = numbers_of(rest);
             Ok(said_of(stamper.stamp(floor_ns)))
+        }
+        "extend" => {
+            let [hi_ns] = numbers_of(rest);
+            stamper.extend(hi_ns).map(|()| "extended".to_string())
+        }
+        "above" => {
+            let [t_ns] = numbers_of(rest);
+            stamper.rise_above(t_ns).map(|()| "risen".to_string())
+        }
+        "left" => {
+            let [stamp_ns] = numbers_of(rest);
+            stamper.left(stamp_ns).map(|left| left.as_nanos().to_string())
         }
         "past" => {
             let [stamp_ns] = numbers_of(rest);

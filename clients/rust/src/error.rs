@@ -155,6 +155,8 @@ pub enum Error {
     NoCommit,
     /// The line has more than 64 bytes or a line feed, and was not sent.
     BadLine,
+    /// A limit of a stamper is out of range.
+    BadLimit,
     /// No session of a pool is free in time.
     NoSession,
     /// The pool is closed.
@@ -197,6 +199,7 @@ impl fmt::Display for Error {
             Error::NotReleased => out.write_str("the commit is not released in time"),
             Error::NoCommit => out.write_str("no commit was begun"),
             Error::BadLine => out.write_str("the line is too long or has a line feed"),
+            Error::BadLimit => out.write_str("a limit of the stamper is out of range"),
             Error::NoSession => out.write_str("no session of the pool is free in time"),
             Error::PoolClosed => out.write_str("the pool is closed"),
         }

@@ -29,8 +29,12 @@ use std::sync::atomic::{AtomicU64, Ordering};
 use std::thread;
 use std::time::{Duration, Instant};
 
-/// How far a floor may lie ahead of the reading's latest, in nanoseconds: ten seconds.
+/// The most that a floor may lie ahead of the reading's latest, in nanoseconds: ten seconds.
 pub const MAX_AHEAD_NS: u64 = 10_000_000_000;
+/// How far it may, unless a stamper says otherwise: a second, as for sessions.
+pub const AHEAD_NS: u64 = 1_000_000_000;
+/// The widest grid, in nanoseconds: a second.
+pub const MAX_GRID_NS: u64 = 1_000_000_000;
 
 /// The longest sleep before the next look: a newer publication may have a later earliest.
 const LONGEST_SLEEP: Duration = Duration::from_millis(50);
@@ -76,10 +80,20 @@ impl Lease {
     /// there is no such number, `LeaseOver` where it is above the upper end of the lease.
     #[inline]
     pub fn stamp_of(&self, free_ns: u64, latest_ns: u64, floor_ns: u64) -> Result<u64, Error> {
-        if floor_ns > latest_ns.saturating_add(MAX_AHEAD_NS) {
+        self.stamp_on_grid(free_ns, latest_ns, floor_ns, [MAX_AHEAD_NS, 1])
+    }
+
+    /// The rule with how far the floor may be ahead, and on a grid.
+    #[inline]
+    fn stamp_on_grid(&self, free_ns: u64, latest_ns: u64, floor_ns: u64, limits: [u64; 2]) -> Result<u64, Error> {
+        let [ahead_ns, grid_ns] = limits;
+        if floor_ns > latest_ns.saturating_add(ahead_ns) {
             return Err(Refused::FloorTooFar.into());
         }
-        let stamp_ns = latest_ns.max(floor_ns).max(self.lo_ns).max(free_ns);
+        let mut stamp_ns = latest_ns.max(floor_ns).max(self.lo_ns).max(free_ns);
+        if grid_ns > 1 {
+            stamp_ns = stamp_ns.saturating_add((grid_ns - stamp_ns % grid_ns) % grid_ns);
+        }
         if stamp_ns > MAX_TIME_NS {
             return Err(Refused::UsedUp.into());
         }
@@ -110,7 +124,10 @@ pub struct Stamp {
 #[derive(Debug)]
 pub struct Stamper {
     client: Client,
-    lease: Lease,
+    lo_ns: u64,
+    hi_ns: AtomicU64,
+    /// How far a floor may be ahead, and the grid.
+    limits: [u64; 2],
     /// The least number above all stamps given: 0, or one more than the last one.
     free_ns: AtomicU64,
 }
@@ -123,7 +140,37 @@ impl Stamper {
 
     /// The same with a lease.
     pub fn with_lease(client: Client, lease: Lease) -> Stamper {
-        Stamper { client, lease, free_ns: AtomicU64::new(0) }
+        let Lease { lo_ns, hi_ns } = lease;
+        Stamper { client, lo_ns, hi_ns: AtomicU64::new(hi_ns), limits: [AHEAD_NS, 1], free_ns: AtomicU64::new(0) }
+    }
+
+    /// The same stamper, where a floor may lie `ahead_ns` ahead of the latest, [`MAX_AHEAD_NS`] at most: it moves all later stamps,
+    /// too. Stamps are multiples of `grid_ns`, [`MAX_GRID_NS`] at most: 1,000 where a database keeps microseconds. Fails with
+    /// [`Error::BadLimit`] for other numbers.
+    pub fn limited(mut self, ahead_ns: u64, grid_ns: u64) -> Result<Stamper, Error> {
+        if ahead_ns > MAX_AHEAD_NS || !(1..=MAX_GRID_NS).contains(&grid_ns) {
+            return Err(Error::BadLimit);
+        }
+        self.limits = [ahead_ns, grid_ns];
+        Ok(self)
+    }
+
+    /// Has the lease end later, while other threads stamp. It never ends earlier by this. Refuses with `LeasePastMax`.
+    pub fn extend(&self, hi_ns: u64) -> Result<(), Error> {
+        if hi_ns > MAX_TIME_NS {
+            return Err(Refused::LeasePastMax.into());
+        }
+        self.hi_ns.fetch_max(hi_ns, Ordering::AcqRel);
+        Ok(())
+    }
+
+    /// Has all stamps from now on be above this time, as above the greatest in a log. Refuses with `LeasePastMax`.
+    pub fn rise_above(&self, t_ns: u64) -> Result<(), Error> {
+        if t_ns > MAX_TIME_NS {
+            return Err(Refused::LeasePastMax.into());
+        }
+        self.free_ns.fetch_max(t_ns + 1, Ordering::AcqRel);
+        Ok(())
     }
 
     /// The reader.
@@ -132,11 +179,12 @@ impl Stamper {
     }
 
     /// The lease.
+    #[inline]
     pub fn lease(&self) -> Lease {
-        self.lease
+        Lease { lo_ns: self.lo_ns, hi_ns: self.hi_ns.load(Ordering::Acquire) }
     }
 
-    /// The stamp of a commit: the least that is no less than the latest of a reading taken in this call, the floor and the
+    /// The stamp of a commit: the least on the grid that is no less than the latest of a reading taken in this call, the floor and the
     /// lower end of the lease, and above every stamp that this stamper gave before. It lies in the lease.
     ///
     /// Refuses as [`Client::now`], then as [`Lease::stamp_of`]. After a refusal nothing is used up. By a mapped reader it
@@ -147,7 +195,7 @@ impl Stamper {
         let reading = self.client.now()?;
         let mut free_ns = self.free_ns.load(Ordering::Acquire);
         loop {
-            let stamp_ns = self.lease.stamp_of(free_ns, reading.latest_ns, floor_ns)?;
+            let stamp_ns = self.lease().stamp_on_grid(free_ns, reading.latest_ns, floor_ns, self.limits)?;
             match self.free_ns.compare_exchange(free_ns, stamp_ns + 1, Ordering::AcqRel, Ordering::Acquire) {
                 Ok(_) => return Ok(Stamp { stamp_ns, reading }),
                 Err(found) => free_ns = found,
@@ -162,6 +210,16 @@ impl Stamper {
         Ok(self.client.now()?.after(stamp_ns))
     }
 
+    /// One step of `wait_past`, for who has to look at something else meanwhile: zero where a stamp has surely passed, or else how
+    /// long to sleep before the next look, at most 50 milliseconds. Refuses as [`Client::now`].
+    pub fn left(&self, stamp_ns: u64) -> Result<Duration, Error> {
+        let reading = self.client.now()?;
+        if reading.after(stamp_ns) {
+            return Ok(Duration::ZERO);
+        }
+        Ok(Duration::from_nanos((stamp_ns - reading.earliest_ns).saturating_add(1)).min(LONGEST_SLEEP))
+    }
+
     /// Sleeps until a stamp has surely passed, and answers true, or until the deadline, and answers false. It takes a reading
     /// before the first sleep and after each, also after the deadline, and sleeps as long as the stamp is ahead of the earliest,
     /// at most 50 milliseconds at once.
@@ -169,16 +227,15 @@ impl Stamper {
     /// Refuses as [`Client::now`], at once. The stamp is as it was after that and after false: wait again.
     pub fn wait_past(&self, stamp_ns: u64, deadline: Instant) -> Result<bool, Error> {
         loop {
-            let reading = self.client.now()?;
-            if reading.after(stamp_ns) {
+            let sleep = self.left(stamp_ns)?;
+            if sleep.is_zero() {
                 return Ok(true);
             }
             let left = deadline.saturating_duration_since(Instant::now());
             if left.is_zero() {
                 return Ok(false);
             }
-            let ahead = Duration::from_nanos((stamp_ns - reading.earliest_ns).saturating_add(1));
-            thread::sleep(ahead.min(LONGEST_SLEEP).min(left));
+            thread::sleep(sleep.min(left));
         }
     }
 }

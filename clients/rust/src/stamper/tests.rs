@@ -201,8 +201,8 @@ fn readings_of_stamps() {
     // It was published as overdue, in life 71.
     assert_eq!((given.reading.epoch, given.reading.fresh), (71, false));
     shared.publish(2, 1_000, 2_000, NO_LIMIT);
-    let next = stamper.stamp(given.stamp_ns + 1_000_000_000).expect("a stamp");
-    assert_eq!((next.stamp_ns, next.reading.epoch), (given.stamp_ns + 1_000_000_000, 72));
+    let next = stamper.stamp(given.stamp_ns + 900_000_000).expect("a stamp");
+    assert_eq!((next.stamp_ns, next.reading.epoch), (given.stamp_ns + 900_000_000, 72));
     // A floor put that one ahead of the time.
     assert_eq!(stamp_of(&stamper, 0), Ok(next.stamp_ns + 1));
 }
@@ -352,4 +352,14 @@ fn threads_use_up_a_lease() {
     let mut all = given.concat();
     all.sort_unstable();
     assert_eq!(all, (LO..LO + 300_000).collect::<Vec<_>>());
+}
+
+#[test]
+fn limits() {
+    let shared = Shared::new("limits");
+    for (ahead_ns, grid_ns) in [(MAX_AHEAD_NS + 1, 1), (0, 0), (0, MAX_GRID_NS + 1)] {
+        let limited = Stamper::new(shared.client()).limited(ahead_ns, grid_ns);
+        assert!(matches!(limited, Err(Error::BadLimit)), "{limited:?}");
+    }
+    assert!(Stamper::new(shared.client()).limited(MAX_AHEAD_NS, MAX_GRID_NS).is_ok());
 }

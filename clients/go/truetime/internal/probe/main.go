@@ -167,7 +167,7 @@ func tryStampers(lines *bufio.Scanner) {
 		case "open":
 			words := strings.Split(rest, " ")
 			var err error
-			stamper, err = openStamper(words[0], truetime.Lease{Lo: signed(number(words[1])), Hi: signed(number(words[2]))})
+			stamper, err = openStamper(words[0], truetime.Lease{Lo: signed(number(words[1])), Hi: signed(number(words[2]))}, words[3:])
 			fmt.Fprintln(out, said("open", err))
 		case "threads":
 			n := numbers(rest)
@@ -195,12 +195,16 @@ func row(n []uint64) (string, error) {
 	return "stamp " + strconv.FormatInt(stamp, 10), err
 }
 
-func openStamper(path string, lease truetime.Lease) (*truetime.Stamper, error) {
+func openStamper(path string, lease truetime.Lease, limits []string) (*truetime.Stamper, error) {
 	client, err := truetime.Open(path, strconv.Itoa(os.Geteuid()))
 	if err != nil {
 		return nil, err
 	}
-	return truetime.NewStamperWithLease(client, lease)
+	stamper, err := truetime.NewStamperWithLease(client, lease)
+	if err != nil || len(limits) < 2 {
+		return stamper, err
+	}
+	return stamper, stamper.SetLimits(time.Duration(number(limits[0])), time.Duration(number(limits[1])))
 }
 
 // callStamper makes a call, and says what it gives; one that has an error says nothing that it should not.
@@ -210,6 +214,13 @@ func callStamper(stamper *truetime.Stamper, name string, n []uint64) (string, er
 	switch name {
 	case "stamp":
 		return stampText(stamper.Stamp(signed(n[0])))
+	case "extend":
+		return "extended", stamper.Extend(signed(n[0]))
+	case "above":
+		return "risen", stamper.RiseAbove(signed(n[0]))
+	case "left":
+		left, err := stamper.Left(signed(n[0]))
+		return strconv.FormatInt(int64(left), 10), err
 	case "past":
 		is, err = stamper.IsPast(signed(n[0]))
 	case "wait":

@@ -32,15 +32,21 @@ import java.util.concurrent.locks.LockSupport;
  * too far ahead: wait), or make the stamper with a lease that begins above it, or a new one.
  */
 public final class Stamper {
-    /** How far a floor may lie ahead of the reading's latest, in nanoseconds: ten seconds. */
+    /** The most that a floor may lie ahead of the reading's latest, in nanoseconds: ten seconds. */
     public static final long MAX_AHEAD_NS = 10_000_000_000L;
+    /** How far it may, unless a stamper says otherwise: a second, as for sessions. */
+    public static final long AHEAD_NS = 1_000_000_000;
+    /** The widest grid, in nanoseconds: a second. */
+    public static final long MAX_GRID_NS = 1_000_000_000;
 
     /** The longest sleep before the next look: a newer publication may have a later earliest. */
     private static final long LONGEST_SLEEP_NS = 50_000_000;
 
     private final TrueTime client;
     private final long leaseLoNs;
-    private final long leaseHiNs;
+    private final AtomicLong leaseHiNs;
+    private final long aheadNs;
+    private final long gridNs;
     /** The least number above all stamps given: 0, or one more than the last one. */
     private final AtomicLong freeNs = new AtomicLong();
 
@@ -60,6 +66,18 @@ public final class Stamper {
      * out of order, then with 102 where the upper one is above the greatest time.
      */
     public Stamper(TrueTime client, long leaseLoNs, long leaseHiNs) {
+        this(client, leaseLoNs, leaseHiNs, AHEAD_NS, 1);
+    }
+
+    /**
+     * The same, where a floor may lie {@code aheadNs} ahead of the latest, {@link #MAX_AHEAD_NS} at most: it moves all later stamps,
+     * too. Stamps are multiples of {@code gridNs}, {@link #MAX_GRID_NS} at most: 1,000 where a database keeps microseconds. Throws
+     * {@link IllegalArgumentException} for other numbers.
+     */
+    public Stamper(TrueTime client, long leaseLoNs, long leaseHiNs, long aheadNs, long gridNs) {
+        if (aheadNs < 0 || aheadNs > MAX_AHEAD_NS || gridNs < 1 || gridNs > MAX_GRID_NS) {
+            throw new IllegalArgumentException("aheadNs is up to ten seconds, and gridNs from 1 to a second");
+        }
         if (isBelow(leaseHiNs, leaseLoNs)) {
             throw new TrueTime.Refused(101);
         }
@@ -68,14 +86,32 @@ public final class Stamper {
         }
         this.client = client;
         this.leaseLoNs = leaseLoNs;
-        this.leaseHiNs = leaseHiNs;
+        this.leaseHiNs = new AtomicLong(leaseHiNs);
+        this.aheadNs = aheadNs;
+        this.gridNs = gridNs;
+    }
+
+    /** Has the lease end later, while other threads stamp. It never ends earlier by this. Refuses with 102. */
+    public void extend(long leaseHiNs) {
+        if (isBelow(TrueTime.MAX_TIME_NS, leaseHiNs)) {
+            throw new TrueTime.Refused(TrueTime.Refused.LEASE_PAST_MAX);
+        }
+        this.leaseHiNs.accumulateAndGet(leaseHiNs, Math::max);
+    }
+
+    /** Has all stamps from now on be above this time, as above the greatest in a log. Refuses with 102. */
+    public void riseAbove(long tNs) {
+        if (isBelow(TrueTime.MAX_TIME_NS, tNs)) {
+            throw new TrueTime.Refused(TrueTime.Refused.LEASE_PAST_MAX);
+        }
+        freeNs.accumulateAndGet(tNs + 1, Math::max);
     }
 
     /**
-     * The stamp of a commit: the least that is no less than the latest of a reading taken in this call, the floor and the lower
+     * The stamp of a commit: the least on the grid that is no less than the latest of a reading taken in this call, the floor and the lower
      * end of the lease, and above every stamp that this stamper gave before. It lies in the lease.
      *
-     * <p>Refuses as {@link TrueTime#now}, then with 902 where the floor is more than {@link #MAX_AHEAD_NS} above the latest,
+     * <p>Refuses as {@link TrueTime#now}, then with 902 where the floor is further above the latest than it may be,
      * 901 where no such stamp is left up to the greatest time, 903 where it is above the upper end of the lease. After a
      * refusal nothing is used up. By a mapped reader it makes no system call but the clock's. It has one load and one
      * exchange, and one more exchange each time that another thread was faster.
@@ -84,7 +120,7 @@ public final class Stamper {
         TrueTime.Reading reading = client.now();
         long free = freeNs.get();
         while (true) {
-            long stampNs = stampOf(free, reading.latestNs(), floorNs, leaseLoNs, leaseHiNs);
+            long stampNs = stampOf(free, reading.latestNs(), floorNs, leaseLoNs, leaseHiNs.get(), aheadNs, gridNs);
             long found = freeNs.compareAndExchange(free, stampNs + 1);
             if (found == free) {
                 return new Stamp(stampNs, reading);
@@ -102,6 +138,19 @@ public final class Stamper {
     }
 
     /**
+     * One step of {@link #awaitPast}, for who has to look at something else meanwhile: 0 where a stamp has surely passed, or else
+     * how many nanoseconds to sleep before the next look, at most 50 milliseconds. Refuses as {@link TrueTime#now}.
+     */
+    public long leftNs(long stampNs) {
+        long earliest = client.now().earliestNs();
+        if (isBelow(stampNs, earliest)) {
+            return 0;
+        }
+        long ahead = stampNs - earliest;
+        return isBelow(ahead, LONGEST_SLEEP_NS) ? ahead + 1 : LONGEST_SLEEP_NS;
+    }
+
+    /**
      * Sleeps until a stamp has surely passed, and answers true, or until the time-out is over, and answers false. It takes a
      * reading before the first sleep and after each, also once the time-out is over, and sleeps as long as the stamp is ahead
      * of the earliest, at most 50 milliseconds at once.
@@ -113,8 +162,8 @@ public final class Stamper {
         long began = System.nanoTime();
         long limit = Math.max(TimeUnit.NANOSECONDS.convert(timeout), 0);
         while (true) {
-            TrueTime.Reading reading = client.now();
-            if (isBelow(stampNs, reading.earliestNs())) {
+            long sleep = leftNs(stampNs);
+            if (sleep == 0) {
                 return true;
             }
             long left = limit - (System.nanoTime() - began);
@@ -124,8 +173,6 @@ public final class Stamper {
             if (Thread.interrupted()) {
                 throw new InterruptedException();
             }
-            long ahead = stampNs - reading.earliestNs();
-            long sleep = isBelow(ahead, LONGEST_SLEEP_NS) ? ahead + 1 : LONGEST_SLEEP_NS;
             LockSupport.parkNanos(this, Math.min(sleep, left));
         }
     }
@@ -134,11 +181,14 @@ public final class Stamper {
      * The rule of all stamps, over unsigned numbers. {@code freeNs} is the least number above all stamps given: 0 before the
      * first one, and then one more than the last one.
      */
-    static long stampOf(long freeNs, long latestNs, long floorNs, long leaseLoNs, long leaseHiNs) {
-        if (isBelow(latestNs, floorNs) && isBelow(MAX_AHEAD_NS, floorNs - latestNs)) {
+    static long stampOf(long freeNs, long latestNs, long floorNs, long leaseLoNs, long leaseHiNs, long aheadNs, long gridNs) {
+        if (isBelow(latestNs, floorNs) && isBelow(aheadNs, floorNs - latestNs)) {
             throw new TrueTime.Refused(902);
         }
         long stampNs = greater(greater(latestNs, floorNs), greater(leaseLoNs, freeNs));
+        if (gridNs > 1) {
+            stampNs += Long.remainderUnsigned(gridNs - Long.remainderUnsigned(stampNs, gridNs), gridNs);
+        }
         if (isBelow(TrueTime.MAX_TIME_NS, stampNs)) {
             throw new TrueTime.Refused(901);
         }

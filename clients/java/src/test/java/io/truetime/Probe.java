@@ -178,7 +178,7 @@ public final class Probe {
         new Stamper(null, n[4], n[5]);
         // Behind the greatest number there is none, and each past the greatest time is as good.
         long free = n[0] == 0 || n[0] == -1 ? n[0] : n[0] + 1;
-        return "stamp " + Long.toUnsignedString(Stamper.stampOf(free, n[2], n[3], n[4], n[5]));
+        return "stamp " + Long.toUnsignedString(Stamper.stampOf(free, n[2], n[3], n[4], n[5], Stamper.MAX_AHEAD_NS, 1));
     }
 
     private static String stamp(Stamper stamper, long floorNs) {
@@ -221,6 +221,14 @@ public final class Probe {
                 return row(n);
             case "stamp":
                 return stamp(stamper, n[0]);
+            case "extend":
+                stamper.extend(n[0]);
+                return "extended";
+            case "above":
+                stamper.riseAbove(n[0]);
+                return "risen";
+            case "left":
+                return Long.toString(stamper.leftNs(n[0]));
             case "past":
                 return stamper.isPast(n[0]) ? "yes" : "no";
             case "wait":
@@ -241,7 +249,10 @@ public final class Probe {
 
     private static Stamper openedStamper(String[] words) {
         long[] lease = numbers(words, 2);
-        return new Stamper(TrueTime.open(Path.of(words[1]), System.getProperty("user.name")), lease[0], lease[1]);
+        TrueTime client = TrueTime.open(Path.of(words[1]), System.getProperty("user.name"));
+        return lease.length == 2
+            ? new Stamper(client, lease[0], lease[1])
+            : new Stamper(client, lease[0], lease[1], lease[2], lease[3]);
     }
 
     private static void tryStampers(BufferedReader calls) throws IOException, InterruptedException, ExecutionException {

@@ -155,7 +155,7 @@ public final class StamperTest {
             {MAX, 250, 0, 0, MAX - 1, -903},
         };
         for (long[] row : rows) {
-            long came = given(() -> Stamper.stampOf(row[0], row[1], row[2], row[3], row[4]));
+            long came = given(() -> Stamper.stampOf(row[0], row[1], row[2], row[3], row[4], Stamper.MAX_AHEAD_NS, 1));
             check(came == row[5], Arrays.toString(row), came);
         }
     }
@@ -224,8 +224,8 @@ public final class StamperTest {
             // It was published as overdue, in life 71.
             check(first.reading().epoch() == 71 && !first.reading().fresh(), first);
             shared.publish(2, 1_000, 2_000, NO_LIMIT);
-            Stamper.Stamp next = stamper.stamp(first.stampNs() + 1_000_000_000);
-            check(next.stampNs() == first.stampNs() + 1_000_000_000 && next.reading().epoch() == 72, next);
+            Stamper.Stamp next = stamper.stamp(first.stampNs() + 900_000_000);
+            check(next.stampNs() == first.stampNs() + 900_000_000 && next.reading().epoch() == 72, next);
             // A floor put that one ahead of the time.
             stamps(next.stampNs() + 1, stamper, 0);
         }
@@ -402,8 +402,21 @@ public final class StamperTest {
         }
     }
 
+    private static void limits() {
+        for (long[] limits : new long[][] {{-1, 1}, {Stamper.MAX_AHEAD_NS + 1, 1}, {0, 0}, {0, Stamper.MAX_GRID_NS + 1}}) {
+            try {
+                new Stamper(null, 0, MAX, limits[0], limits[1]);
+                check(false, limits[0], limits[1]);
+            } catch (IllegalArgumentException wanted) {
+                check(true);
+            }
+        }
+        new Stamper(null, 0, MAX, Stamper.MAX_AHEAD_NS, Stamper.MAX_GRID_NS);
+    }
+
     public static void main(String[] words) throws Exception {
         ruleByHand();
+        limits();
         leases();
         stampsOfLease();
         stampsAtEndOfTime();
