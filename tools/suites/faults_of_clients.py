@@ -365,6 +365,10 @@ def lines_of_ask(trial):
     if (status, said, error, lines) != (0, 3 * "yes\n", "", [b"after 1\n", b"before 2\n", f"{longest}\n".encode()]):
         yield f"status {status}, {said!r} and {error!r} to {lines}"
     service = trial.keep(Answerer(answer))
+    lines.clear()
+    ran = trial.command("ask", service.address, given=b"after 1\nbefore 2")
+    if (ran.answer, lines) != (("yes\nyes\n", 0), [b"after 1\n", b"before 2\n"]):
+        yield f"{ran.answer} to {lines}, and the last line has no end"
     folder = os.open("/", os.O_RDONLY)
     ran = subprocess.run([trial.program, "ask", service.address], stdin=folder, capture_output=True, text=True, timeout=10, check=False)
     os.close(folder)

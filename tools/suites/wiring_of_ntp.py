@@ -343,12 +343,12 @@ def sockets_of_masters(trial):
     server.says = Says(silent=True)
     eventually(lambda asked=len(server.requests): len(server.requests) > asked, SOON_S)
     before = len(server.requests)
-    for _ in range(2):
+    for _ in range(3):
         first, asked = server.client, len(server.requests)
         trial.check("option ntp", eventually(lambda first=first: server.client != first, SOON_S),
                     f"{len(server.requests) - asked} requests without a reply come from port {first[1] if first else None}")
     runs = [len(list(same)) for _, same in itertools.groupby(server.ports[before:])]
-    trial.equal("option ntp: requests without a reply from a new port", runs[1], 4)
+    trial.check("option ntp", 4 in runs[1:-1], f"{runs[1:-1]} requests without a reply come from new ports, and 4 are wanted")
     server.says = Says()
     trial.check("option ntp", over.holds(), "no answer once the server replies again")
 

@@ -52,9 +52,9 @@ def top_once(trial):
             trial.check("top", lines[3].endswith(" suspect") and lines[4].endswith(" never"), f"{lines[3:5]}")
             trial.check("top", any(line.endswith("[]") for line in lines[2:7]), "no source holds both ends")
             trial.check("top", ran.said.isascii() and "! 1 suspects\n" in ran.said and "\x1b" not in ran.said, ran.said)
-    wide, plain = (run([trial.program, "top", node.path("node.toml"), "--once", *words], env=PLAIN, cwd=node.folder).said.splitlines()
-                   for words in (("--columns", "80"), ()))
-    trial.equal("top", len(plain[1]), len(wide[1]))
+    wide, plain, other = (run([trial.program, "top", node.path("node.toml"), "--once", *words], env=PLAIN | more, cwd=node.folder).said.splitlines()
+                          for words, more in ((("--columns", "80"), {}), ((), {}), ((), {"COLUMNS": "wide"})))
+    trial.equal("top", (len(plain[1]), len(other[1])), (len(wide[1]), ) * 2)
 
 
 @suite.case()
