@@ -143,13 +143,14 @@ class FakeServer(threading.Thread):
 
     def __init__(self, says: Says | None = None, host: str = "127.0.0.1", port: int | None = None):
         super().__init__(daemon=True)
-        self.door = socket.socket(socket.AF_INET, socket.SOCK_DGRAM)
+        self.door = socket.socket(socket.AF_INET6 if ":" in host else socket.AF_INET, socket.SOCK_DGRAM)
         self.door.bind((host, port or free_port(socket.SOCK_DGRAM)))
         self.port = self.door.getsockname()[1]
-        self.address, self.says, self.ended = f"{host}:{self.port}", says or Says(), False
+        self.address, self.says, self.ended = f"[{host}]:{self.port}" if ":" in host else f"{host}:{self.port}", says or Says(), False
         self.requests: list[bytes] = []
         self.times: list[float] = []
-        #: The address that asked last.
+        #: The port from which each request came, and the address that asked last.
+        self.ports: list[int] = []
         self.client: tuple[str, int] | None = None
         self.start()
 
@@ -157,7 +158,7 @@ class FakeServer(threading.Thread):
         self.ended = True
         with contextlib.suppress(OSError):
             self.door.shutdown(socket.SHUT_RDWR)
-        with contextlib.suppress(OSError), socket.socket(socket.AF_INET, socket.SOCK_DGRAM) as door:
+        with contextlib.suppress(OSError), socket.socket(self.door.family, socket.SOCK_DGRAM) as door:
             door.sendto(b"", self.door.getsockname())
         self.join(2)
         self.door.close()
@@ -168,6 +169,7 @@ class FakeServer(threading.Thread):
                 packet, sender = self.door.recvfrom(2048)
                 if len(packet) >= PACKET.size:
                     self.client = sender
+                    self.ports.append(sender[1])
                     self.requests.append(packet)
                     self.times.append(time.monotonic())
                     if self.says.elsewhere:

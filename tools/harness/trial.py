@@ -7,6 +7,7 @@ import typing
 
 from harness.processes import Service
 from harness.program import PROGRAM, Ran, run
+from harness.refusals import strange_sentences
 from harness.trouble import POLL_S, WAIT_S, Fake, Node
 
 
@@ -118,5 +119,8 @@ class Trial(Service):
         return node
 
     def command(self, *words: str, seconds: float = 10, **how) -> Ran:
-        """Runs a command of the program."""
-        return run([self.program, *words], seconds=seconds, **how)
+        """Runs a command of the program. What it says of a refusal has to be the sentence of that."""
+        ran = run([self.program, *words], seconds=seconds, **how)
+        for line in strange_sentences(ran.error):
+            self.wrong(f"{words[:1]} says {line!r}")
+        return ran

@@ -1,5 +1,6 @@
 """What can go wrong round a machine of the time service: masters that lie, floods, networks, pipes and files."""
 import contextlib
+import ctypes
 import fcntl
 import multiprocessing
 import os
@@ -315,6 +316,10 @@ def disrupt(path, marker):
 
 # Networks.
 
+#: What setns is told of a network.
+NEW_NETWORK = 0x40000000
+
+
 class Network:
     """A network namespace with a loopback of its own. No packet leaves it, and it goes with the process that holds it."""
 
@@ -332,6 +337,22 @@ class Network:
     def close(self):
         self.holder.kill()
         self.holder.wait()
+
+    def inside(self, call):
+        """What a call gives that is made in the network, as a socket, which stays there."""
+        made = []
+
+        def enter():
+            with open(f"/proc/{self.holder.pid}/ns/net", "rb") as network:
+                if ctypes.CDLL(None).setns(network.fileno(), NEW_NETWORK) == 0:  # of this thread alone
+                    made.append(call())
+
+        thread = threading.Thread(target=enter)
+        thread.start()
+        thread.join()
+        if not made:
+            raise Fault("the network cannot be entered")
+        return made[0]
 
     def do(self, *words):
         ran = subprocess.run([*self.enter, *words], capture_output=True, text=True, check=False)

@@ -122,3 +122,45 @@ def panels(trial):
             lines += len(listed)
             trial.equal(title, found.get(title), (unit, [line_of(expr, name) for expr, name in listed.items()]))
     trial.note(f"{sum(map(len, ROWS.values()))} panels with {lines} lines; {len(trial.result.wrong)} wrong")
+
+
+SOURCE = {"type": "prometheus", "uid": "${datasource}"}
+ALL = {"refresh": 2, "sort": 1, "includeAll": True, "multi": True, "allValue": ".*", "current": {"text": ["All"], "value": ["$__all"]}, "options": []}
+
+
+def choice(name, label, query):
+    """A choice of a label's values, which begins with all of them."""
+    return {"name": name, "label": label, "type": "query", "datasource": SOURCE, "query": {"query": query, "refId": name}, "definition": query, **ALL}
+
+
+# What stands around the panels: what is looked at by default and how often, and what can be chosen.
+FRAME = {
+    "uid": "truetime", "title": "Time service", "tags": ["truetime"], "schemaVersion": 38, "version": 1, "editable": True, "graphTooltip": 1,
+    "refresh": "15s", "timezone": "browser", "time": {"from": "now-1h", "to": "now"}, "annotations": {"list": []}, "links": [],
+    "templating": {"list": [
+        {"name": "datasource", "label": "Prometheus", "type": "datasource", "query": "prometheus", "refresh": 1, "options": [], "current": {}},
+        choice("instance", "Host", 'label_values({__name__=~"truetime_(master_)?build_info"}, instance)'),
+        choice("machine", "Machine", "label_values(truetime_epoch, machine)")]},
+}
+LEGEND = {"legend": {"displayMode": "list", "placement": "bottom", "showLegend": True}, "tooltip": {"mode": "multi", "sort": "none"}}
+RED_FROM_ONE = {"mode": "absolute", "steps": [{"color": "green", "value": None}, {"color": "red", "value": 1}]}
+
+
+@suite.case()
+def frame(trial):
+    """What stands around the panels, and what each of them has beside its lines: its place among three in a row, its legend, and its colours."""
+    dashboard = json.loads(read_text(DASHBOARD))
+    panels_of_all = dashboard.pop("panels")
+    trial.check("description", dashboard.pop("description", ""), "there is none")
+    for name in sorted({*FRAME, *dashboard}):
+        trial.equal(name, dashboard.get(name), FRAME.get(name))
+    for panel in panels_of_all:
+        title, is_row = panel["title"], panel["type"] == "row"
+        size = (24, 1) if is_row else (8, 8)
+        trial.equal(f"size of {title}", (panel["gridPos"]["w"], panel["gridPos"]["h"], panel["gridPos"]["x"] % size[0]), (*size, 0))
+        if not is_row:
+            trial.equal(f"options of {title}", panel["options"], LEGEND if panel["type"] == "timeseries" else {})
+            rest = {key: value for key, value in panel["fieldConfig"]["defaults"].items() if key != "unit"}
+            trial.equal(f"fields of {title}", (rest, panel["fieldConfig"]["overrides"]), ({"thresholds": RED_FROM_ONE} if title == "Alerts that fire" else {}, []))
+        else:
+            trial.equal(f"row {title}", (panel["collapsed"], panel["panels"]), (False, []))

@@ -1,4 +1,4 @@
-"""Each rule against a list that was written by hand: when an alert fires, how long that has to last, and whom it wakes."""
+"""Each rule against a list that was written by hand: when an alert fires, how long that has to last, whom it wakes, and what it tells."""
 import re
 
 from harness.program import read_text
@@ -74,3 +74,31 @@ def list_of_rules(trial):
         trial.equal(name, found.get(name), wanted)
     trial.equal("settings", set(settings_in(text)), SETTINGS)
     trial.note(f"{len(WANTED)} alerts; {len(trial.result.wrong)} wrong")
+
+
+# How a label is shown, so that no other one stands in its place.
+PLACES = {"machine": "[Mm]achine %s", "source": "[Ss]ource %s", "instance": "(on|of) %s", "number": r"\(%s\)", "file": "^%s of "}
+# What the words of an alert show; where nothing stands here, the machine and its host.
+OF_MACHINE, OF_SOURCE, OF_MASTER = {"machine", "instance"}, {"machine", "instance", "source"}, {"source", "instance"}
+SHOWN = {
+    **dict.fromkeys(("TruetimeSourceOld", "TruetimeClockRate", "TruetimeSourceSuspect", "TruetimePacketsUnsent"), OF_SOURCE),
+    "TruetimeSourceRefused": OF_SOURCE | {"number"}, "TruetimePacketsUnopened": OF_SOURCE | {"number"},
+    "TruetimeStatusOld": {"file", "instance", "duration"}, "TruetimeStatusGone": {"file", "instance"}, "TruetimeRestarted": OF_MACHINE | {"value"},
+    "TruetimeWide": OF_MACHINE | {"duration"}, "TruetimeMasterSilent": OF_MASTER | {"number"}, "TruetimeMasterWide": OF_MASTER | {"duration"},
+    "TruetimeSessionsFull": OF_MACHINE | {"value"}, "TruetimeCommitWait": OF_MACHINE | {"duration"},
+}
+VALUES = {"$value": "value", "$value | humanizeDuration": "duration"}
+
+
+@suite.case()
+def words_of_alerts(trial):
+    """Each alert names the alarm of the first metric of its rule, and shows whose it is, each label where it belongs, and how much."""
+    for alert in alerts_in(read_text(RULES)):
+        runbook, summary = re.search(r'annotations: \{runbook: "(.*?)", summary: "(.*?)"\}', alert.text).groups()
+        metric = re.search(r"\btruetime_(\w+?)(_sum)?\b", alert.expr) if alert.metrics else None
+        trial.equal(f"{alert.name}: runbook", runbook, f"OPERATING.md, section 3: {metric[1] if metric else 'the file'}")
+        shown = {VALUES.get(one, one.removeprefix("$labels.")) for one in re.findall(r"\{\{ (.*?) \}\}", summary)}
+        trial.equal(f"{alert.name}: what is shown", shown, SHOWN.get(alert.name, OF_MACHINE))
+        for label in PLACES.keys() & shown:
+            place = PLACES[label] % re.escape(f"{{{{ $labels.{label} }}}}")
+            trial.check(f"{alert.name}: {label}", re.search(place, summary), f"it has no {place!r}: {summary}")

@@ -11,6 +11,7 @@ import tempfile
 import tomllib
 
 from harness.program import in_top, read, run
+from harness.refusals import strange_sentences
 from harness.suite import Suite, total, wrong_in
 
 suite = Suite(__name__, at_once=os.cpu_count() or 1)
@@ -72,6 +73,7 @@ def try_command(trial, case):
     # What `--check` says of the limit of descriptors is of this host.
     answered = re.sub(rb"^limit [0-9]+ [0-9]+\n", b"", ran.out, flags=re.MULTILINE), ran.status
     compare(trial, case["words"], (case["answer"].encode(), case.get("status", 0)), answered)
+    trial.equal(f"{trial.result.case}: sentences", strange_sentences(ran.error), [])
     if "says" in case:
         trial.holds(case["says"].encode() in ran.err, f"standard error does not say {case['says']!r}: {ran.error}")
     trial.count(commands=1)
@@ -102,6 +104,7 @@ def try_table(trial, table):
     """The refusals of a table, row by row."""
     for words, text, number in rows_of(table):
         ran = run_on_file(trial.program, words, text.encode()) if "FILE" in words else run([trial.program, *words], text.encode(), 120)
+        trial.equal(f"{trial.result.case}: sentences", strange_sentences(ran.error), [])
         if number:
             is_right = ran[:2] == (f"refused {number}\n".encode(), 4 if number in OF_DEVICES else 2)
         else:

@@ -2,7 +2,8 @@
 vectors, the same files, mapped and not, a file that becomes shorter, and the same conversations with a stand-in for the service, and the C
 reader is put beside a writer that never pauses, also with the compiler's checks of addresses, undefined behaviour and threads. The cases
 of stampers are in clients_of_stampers.py, those of what is opened and closed in clients_of_openings.py, how long each of them waits in
-clients_of_waits.py, and programs that commit in a loop in clients_of_loops.py. Sessions are put beside a machine that is killed and started again, too. Go has tests of its own,
+clients_of_waits.py, the words of errors and invalid arguments in clients_of_errors.py, and programs that commit in a loop in
+clients_of_loops.py. Sessions are put beside a machine that is killed and started again, too. Go has tests of its own,
 which are run in each way in which it is built, with checks of races, and beside a machine, and Python has some for asyncio.
 
 The readers run beside writers for 10 seconds, or as many as --seconds says. A language whose compiler is not here is left out, with a line

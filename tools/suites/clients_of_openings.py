@@ -15,6 +15,7 @@ Meanwhile the descriptors and the mappings of the probe are looked at from outsi
 """
 import collections
 import contextlib
+import ctypes
 import os
 import re
 import socket
@@ -37,6 +38,8 @@ KEEPS_DESCRIPTORS = {"Python"}
 UNMARKED = {"Java"}
 #: The bit of a descriptor that a child does not get, as /proc shows it.
 CLOSED_IN_CHILDREN = 0o2000000
+#: The call of Linux that gives a copy of a descriptor of another process.
+PIDFD_GETFD = 438
 
 
 class Answering(socketserver.StreamRequestHandler):
@@ -159,6 +162,17 @@ class Look(dict):
         return collections.Counter(self.values())
 
 
+def sends_at_once(process, number):
+    """Whether a connection of TCP of another process has TCP_NODELAY, so that no line waits for others to be sent with; nothing where that can't
+    be seen here."""
+    with open(os.pidfd_open(process), "rb") as of_process:
+        copy = ctypes.CDLL(None, use_errno=True).syscall(PIDFD_GETFD, of_process.fileno(), int(number), 0)
+    if copy < 0:
+        return None
+    with socket.socket(fileno=copy) as connection:
+        return bool(connection.getsockopt(socket.IPPROTO_TCP, socket.TCP_NODELAY)) if connection.family != socket.AF_UNIX else None
+
+
 def try_openings(trial, name, probe, opening, impatient):
     """Opens what is named, looks, closes it and looks again."""
     what, kind, where, count, timeout_ms, is_opened, is_answered = opening
@@ -178,7 +192,11 @@ def try_openings(trial, name, probe, opening, impatient):
         trial.equal(f"{name}: {what}", said if by_collector else probe.say("rest"), "rested")
         return look
 
-    before = Look(process, path)
+    for _ in range(150):  # a collector may still have what was mapped before
+        before = Look(process, path)
+        if not before.mapped or probe.say("rest") != "rested":
+            break
+        time.sleep(0.02)
     said = probe.say(f"open {kind} {where} {count} {timeout_ms}")
     if timeout_ms == SHORT_MS:  # which is that of connecting, too
         said = re.sub(r"^\d+", str(count), said)
@@ -193,6 +211,8 @@ def try_openings(trial, name, probe, opening, impatient):
         trial.equal(f"{name}: {what}: open where nothing was opened", (dict(during.open - before.open), dict(during.mapped)), ({}, {}))
     if is_answered and kind in ("tcp", "unix"):
         trial.equal(f"{name}: {what}: sockets", (during.open - before.open)["socket"], count)
+        slow = [number for number in added if during[number] == "socket" and sends_at_once(process, number) is False]
+        trial.equal(f"{name}: {what}: lines that wait for others", slow, [])
     if name not in UNMARKED:
         trial.equal(f"{name}: {what}: descriptors that children get", sorted(during[number] for number in added - during.marked), [])
     for turn in ("close", "close"):  # what is closed may be closed again
@@ -258,7 +278,18 @@ def try_ended(trial, name, words, room):
             listener.settimeout(10)
             listener.listen()
             trial.equal(f"{name}: {address[:4]}", probe.say(f"open {address} 10000"), "open")
-            end(listener.accept()[0])
+            if listener is unix:  # it takes no line any more, which is seen by sending it alone
+                with listener.accept()[0] as deaf:
+                    deaf.shutdown(socket.SHUT_RD)
+                    trial.equal(f"{name}: a line that can't be sent", probe.say("now"), "failed")
+                probe.probe.stdin.write("now\n")
+                one, _ = listener.accept()
+                trial.equal(f"{name}: the line behind it", one.recv(100), b"now\n")
+                one.sendall(b"now 5 15\n")
+                trial.equal(f"{name}: behind it", probe.probe.stdout.readline().strip(), "5 15")
+                end(one)
+            else:
+                end(listener.accept()[0])
             for turn in ("once", "twice"):
                 time.sleep(0.05)
                 probe.probe.stdin.write("now\n")

@@ -427,3 +427,21 @@ def tests_of_java(trial):
     for name in "StamperTest", "ClientTest":
         told = run(["java", "-cp", trial.room, f"io.truetime.{name}"], seconds=120)
         trial.check(f"Java: {name}", told.status == 0, told.said + told.error)
+
+
+@suite.case(root=True, programs=("unshare",))
+def clock_of_readers(trial):
+    """The clock is CLOCK_MONOTONIC, and not one that counts the time in which the host slept: a time namespace sets that one ahead here, and
+    leaves the other as it is."""
+    apart = ["unshare", "--time", "--boottime", "1000", "--fork"]
+    if run([*apart, "true"]).status != 0:
+        trial.note("the clock is not tried: there are no time namespaces here")
+        return
+    path = os.path.join(trial.room, "clock")
+    with Shared(path) as shared:
+        for name, words in trial.shared:
+            shared.publish()
+            begun = shared.now()
+            said = run([*apart, *words, "stamper"], f"open {path} 0 {MAX}\nstamp 0\n".encode(), 60).said.split()
+            is_right = said[:2] == ["open", "stamp"] and begun <= int(said[2]) <= shared.now()
+            trial.check(name, is_right, f"{said} from {begun} on")

@@ -47,7 +47,8 @@ def judge(trial, what, length_ms, call, question, least_ms=None):
 
 def judge_usual(trial, what, length_ms, call):
     """The same of a call that may be over at once where the host is busy: half of five take no longer than half of five sleeps, in one of three
-    tries."""
+    tries. How long the longest call takes, in milliseconds."""
+    longest = 0
     for _ in range(3):
         calls, sleeps = [], []
         for _ in range(5):
@@ -56,11 +57,13 @@ def judge_usual(trial, what, length_ms, call):
             called = time.monotonic()
             time.sleep(length_ms / 1000)
             calls.append(1000 * (called - began))
+            longest = max(longest, calls[-1])
             sleeps.append(1000 * (time.monotonic() - called))
         usual, beside = statistics.median(calls), statistics.median(sleeps)
         if usual <= MORE * beside:
             break
     trial.check(what, usual <= MORE * beside, f"{usual:.1f} ms, beside a sleep of {length_ms} ms that took {beside:.1f}")
+    return longest
 
 
 def wants(trial, what, say, line, wanted):
@@ -118,8 +121,9 @@ def try_stamper(trial, name, words):
         what = f"{name}: what has passed"
         judge(trial, what, 5, lambda: wants(trial, what, say, f"wait {shared.now() - MS} 60000", "yes"), question, 0)
         what_later = f"{name}: a new publication"
-        # A stamper looks each 50 milliseconds: it is over at the end of the first sleep.
-        judge_usual(trial, what_later, 50, lambda: wait_for_publication(trial, what_later, say, shared, 10))
+        # A stamper looks each 50 milliseconds: it is over at the end of the first sleep, and not before.
+        longest = judge_usual(trial, what_later, 50, lambda: wait_for_publication(trial, what_later, say, shared, 10))
+        trial.check(f"{what_later}, before the sleep is over", longest >= 45, f"no wait lasts longer than {longest:.1f} ms")
         late.cancel()
 
 

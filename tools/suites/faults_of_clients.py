@@ -344,10 +344,36 @@ def ask_that_cannot_print(trial):
     """Its standard output is closed, or full."""
     service = trial.keep(Answerer(lambda door, _: door.sendall(b"now 5 15\n")))
     for redirection in (">&-", ">/dev/full"):
-        ran = subprocess.run(["sh", "-c", f'exec "$@" {redirection}', "sh", trial.program, "ask", service.address, "now"], timeout=10,
-                             stdin=subprocess.DEVNULL, stderr=subprocess.PIPE, check=False)
-        if ran.returncode != 4:
-            yield f"status {ran.returncode} with {redirection}"
+        for words in (["ask", service.address, "now"], ["key"]):
+            ran = subprocess.run(["sh", "-c", f'exec "$@" {redirection}', "sh", trial.program, *words], timeout=10,
+                                 stdin=subprocess.DEVNULL, stderr=subprocess.PIPE, check=False)
+            if (ran.returncode, ran.stderr) != (4, b"ttd: refused 1605: writing failed\n"):
+                yield f"{words[0]}: status {ran.returncode} with {redirection}, and {ran.stderr!r}"
+
+
+@suite.case()
+def lines_of_ask(trial):
+    """Each line of an argument is sent, one of 255 bytes as it is. Where standard input cannot be read, that is said."""
+    lines = []
+
+    def answer(door, line):
+        lines.append(line)
+        door.sendall(b"yes\n")
+
+    longest = "x" * 255
+    status, said, error, _ = ask_of(trial, answer, f"after 1\nbefore 2\n{longest}")
+    if (status, said, error, lines) != (0, 3 * "yes\n", "", [b"after 1\n", b"before 2\n", f"{longest}\n".encode()]):
+        yield f"status {status}, {said!r} and {error!r} to {lines}"
+    service = trial.keep(Answerer(answer))
+    lines.clear()
+    ran = trial.command("ask", service.address, given=b"after 1\nbefore 2")
+    if (ran.answer, lines) != (("yes\nyes\n", 0), [b"after 1\n", b"before 2\n"]):
+        yield f"{ran.answer} to {lines}, and the last line has no end"
+    folder = os.open("/", os.O_RDONLY)
+    ran = subprocess.run([trial.program, "ask", service.address], stdin=folder, capture_output=True, text=True, timeout=10, check=False)
+    os.close(folder)
+    if (ran.stdout, ran.returncode) != ("refused 1604\n", 4) or "ttd: standard input can't be read\n" not in ran.stderr:
+        yield f"from a folder: status {ran.returncode}, {ran.stdout!r} and {ran.stderr!r}"
 
 
 @suite.case()
@@ -361,10 +387,16 @@ def ask_that_is_refused(trial):
 
 @suite.case()
 def ask_that_waits(trial):
-    """A commit that is never released has status 5 after all tries."""
-    status, said, _, _ = ask_of(trial, lambda door, _: door.sendall(b"waiting 1 200\n"), "commit", "1", "0", seconds=25)
-    if status != 5 or said != "waiting 1 200\n":
-        yield f"status {status}, {said!r}"
+    """A commit that is never released has status 5 after all tries, which are 10,000."""
+    lines = []
+
+    def wait(door, line):
+        lines.append(line)
+        door.sendall(b"waiting 1 200\n")
+
+    status, said, _, _ = ask_of(trial, wait, "commit", "1", "0", seconds=25)
+    if (status, said, len(lines), set(lines)) != (5, "waiting 1 200\n", 10_000, {b"commit 1 0\n"}):
+        yield f"status {status}, {said!r} after {len(lines)} lines, the first one {lines[:1]}"
 
 
 @suite.case()

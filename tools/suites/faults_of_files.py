@@ -311,6 +311,8 @@ def paths_of_one_file(trial):
             continue
         if ran.answer != (f"refused {refusal}\n", 2):
             yield f"--check with {settings}: {ran.answer}, and {refusal} is wanted"
+        if refusal == "1817" and not ran.error.splitlines()[0].endswith(", by another name of its folder"):
+            yield f"--check with {settings}: {ran.error!r} does not say why"
         for fault in refused_by_start(trial, node, refusal, (2,)):
             yield f"a start with {settings}: {fault}"
 

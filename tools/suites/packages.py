@@ -154,7 +154,15 @@ def files(trial):
         os.umask(before)
     trial.equal("modes by packaging/install", wrong_modes(f"{trial.room}/by_hand/usr") | wrong_modes(f"{trial.room}/by_hand/etc"), {})
     wanted = {name.removesuffix(".gz").replace(UNITS, f"usr/{UNITS}") for of in FILES.values() for name in of if not NOT_BY_INSTALL.match(name)}
-    trial.equal("files of packaging/install", set(files_below(f"{trial.room}/by_hand")), wanted)
+    by_hand = f"{trial.room}/by_hand"
+    trial.equal("files of packaging/install", set(files_below(by_hand)), wanted)
+    trial.check("folder of packaging/install", os.path.isdir(f"{by_hand}/etc/truetime"), "there is no etc/truetime")
+    for file, source in ((file, source) for of in FILES.values() for file, source in of.items() if not NOT_BY_INSTALL.match(file)):
+        made = file.removesuffix(".gz").replace(UNITS, f"usr/{UNITS}")
+        if os.path.exists(f"{by_hand}/{made}"):
+            meant = read(source) if source else read(trial.program) if made == "usr/bin/ttd" else gzip.decompress(read(f"{trial.room}/truetime/{file}"))
+            trial.check(f"{made} of packaging/install", read(f"{by_hand}/{made}") == meant, f"it is not {source or 'that of the package'}")
+    try_module(trial, f"{trial.room}/python3-truetime/{MODULE}-{VERSION}.dist-info")
 
 
 def wrong_modes(root):
@@ -164,6 +172,17 @@ def wrong_modes(root):
     programs = {name.removeprefix("usr/") if os.path.basename(root) == "usr" else name for name in PROGRAMS}
     return {name: oct(mode) for name, mode in found.items()
             if mode != (stat.S_IFDIR | 0o755 if stat.S_ISDIR(mode) else stat.S_IFREG | (0o755 if name in programs else 0o644))}
+
+
+# What pip and importlib read of the module.
+METADATA = ["Metadata-Version: 2.1", "Name: truetime", f"Version: {VERSION}",
+            "Summary: The time with an error bound, read from shared memory, and timestamps for commits", "Requires-Python: >=3.9"]
+
+
+def try_module(trial, folder):
+    """What the package of the module says of itself where Python looks."""
+    trial.equal("METADATA", read_text(f"{folder}/METADATA").splitlines(), METADATA)
+    trial.equal("INSTALLER", read_text(f"{folder}/INSTALLER"), "debian\n")
 
 
 def try_program(trial, made):
@@ -199,6 +218,32 @@ def manual(trial):
     trial.equal("the example of settings", (ran.status, ran.error), (0, ""))
     for line in read_text("packaging/node.toml").splitlines():
         trial.check("the example of node.toml.5", line in shown["man5/node.toml.5"], f"{line!r} is not there")
+    try_pages(trial, {page: [" ".join(line.split()) for line in text.splitlines()] for page, text in shown.items()})
+
+
+# The sections of each page, but for those of the commands, and a line that stands in it.
+PAGES = {
+    "man1/ttd.1": {"NAME": "ttd - time with an error bound, and commit wait", "DESCRIPTION": "", "SEE ALSO": "node.toml(5), OPERATING.md"},
+    "man5/node.toml.5": {"NAME": "node.toml - the settings of a machine of the time service", "SYNOPSIS": "ttd serve node.toml", "DESCRIPTION": "",
+                         "EXAMPLE": "", "FILES": "/etc/truetime/NAME.toml", "SEE ALSO": "ttd(1), OPERATING.md"},
+}
+
+
+def try_pages(trial, shown):
+    """The sections of the pages, and the whole help of the program and of each command in the first one."""
+    for page, sections in PAGES.items():
+        found = [line for line in shown[page] if re.fullmatch("[A-Z ]+", line) and not line.startswith("THE COMMAND ")]
+        trial.equal(f"sections of {page}", found, list(sections))
+        text = " ".join(shown[page])
+        for section, line in sections.items():
+            behind = text.partition(f" {section} ")[2]
+            trial.check(f"{section} of {page}", behind.startswith(line), f"it begins with {behind[:80]!r}")
+        version = trial.command("--version").said.strip()
+        trial.check(f"foot of {page}", shown[page][-1].startswith(version), f"{shown[page][-1]!r} does not begin with {version!r}")
+        trial.check(f"where {page} reads on", "and the pages that it names, in /usr/share/doc/truetime" in text, text[-200:])
+    for words in ([], *([command] for command in re.findall(r"^THE COMMAND ([A-Z]+)$", "\n".join(shown["man1/ttd.1"]), re.MULTILINE))):
+        for line in trial.command(*map(str.lower, words), "--help").said.splitlines():
+            trial.check(f"ttd.1, help of {words}", " ".join(line.split()) in " ".join(shown["man1/ttd.1"]), f"{line!r} is not there")
 
 
 # A host.
@@ -310,6 +355,8 @@ def life(trial):
     of_all = {name for of in FILES.values() for name in of}
     trial.equal("files that are missing", [name for name in of_all if not host.exists(name) and not host.exists(f"{name}.gz")], [])
     trial.equal("user", host.do("id", "-un", "truetime").said, "truetime\n")
+    if host.do("sh", "-c", "command -v py3compile").status == 0:
+        trial.check("module", host.exists(f"{MODULE}/__pycache__"), "it is not compiled")
     trial.equal("folders", host.do("stat", "-c", "%U %a %n", "/etc/truetime", "/var/lib/truetime", "/run/truetime").said,
                 "root 755 /etc/truetime\nroot 755 /var/lib/truetime\nroot 755 /run/truetime\n")
     trial.equal("enabled", {name for name in host.written() if name.startswith("etc/systemd/")}, set())

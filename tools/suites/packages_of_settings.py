@@ -182,6 +182,42 @@ def stands_still(trial):
         trial.equal(name, (ran.status, ran.error[:3]), (0, "<4>") if wanted else (1, ""))
 
 
+# The same of a machine with two places to ask at, which answers at one of them, or at both.
+PLACES = """#!/bin/sh
+case $1 in
+serve) printf '%s\\n' "listen 127.0.0.1:5601" "drift 200" "poll 250000000" "wait 50000000" "state HERE" "socket HERE/socket" "status HERE/status";;
+ask) echo "$2" >>HERE/asked; case "$2" in ANSWERS) sed -n 1p HERE/lines; sed -i 1d HERE/lines;; esac;;
+esac
+"""
+# Where it answers, its readings, whether it stands still, where it is asked, and how many rounds of 0.3 seconds that takes at least.
+TCP, UNIX = "127.0.0.1:5601", "HERE/socket"
+ASKS = {
+    "by TCP": ("127.*", [aged(0), aged(300_000_000, -20)], False, [TCP, TCP], 1),
+    "by the socket": ("*socket", [aged(0), aged(300_000_000, -20)], False, [TCP, UNIX] * 2, 1),
+    "nowhere": ("nowhere", [], True, [TCP, UNIX], 0),
+    "at both, without a publication": ("*", [aged(0), *(aged(300_000_000 * turn) for turn in (1, 2, 3))], True, [TCP] * 4, 3),
+}
+
+
+@suite.case()
+def stands_still_at_both_places(trial):
+    """packaging/stands-still asks by TCP, and at the socket where there is no answer, again and again a round later."""
+    for number, (name, (where, lines, wanted, asked, rounds)) in enumerate(ASKS.items()):
+        here = os.path.join(trial.room, str(number))
+        os.mkdir(here)
+        for file in ("status", "epoch"):
+            write(os.path.join(here, file), b"")
+            os.utime(os.path.join(here, file), (time.time() - OLD, ) * 2)
+        write(os.path.join(here, "lines"), "".join(f"{line}\n" for line in lines).encode())
+        write(os.path.join(here, "ttd"), PLACES.replace("ANSWERS", where).replace("HERE", here).encode())
+        os.chmod(os.path.join(here, "ttd"), 0o755)
+        began = time.monotonic()
+        ran = run([in_top("packaging/stands-still"), "settings"], env={**os.environ, "PATH": f"{here}:{os.environ['PATH']}"})
+        trial.between(f"{name}: seconds", 0.3 * rounds, time.monotonic() - began, 0.3 * rounds + 5)
+        trial.equal(name, ran.status, 0 if wanted else 1)
+        trial.equal(f"{name}: asked", read_text(os.path.join(here, "asked")).replace(here, "HERE").split(), asked)
+
+
 # The same for packaging/await. A machine that gives the time at once, and whose shared file can be read from the third look on, or holds who
 # reads it up.
 AWAITED = """#!/bin/sh

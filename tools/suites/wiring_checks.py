@@ -100,8 +100,8 @@ TIMES = {
     "page": 2 * SECOND, "end look": SECOND // 500,
     # A connection of `ask`, a read of its reply, and its pause; a connection of `top`, and its pause.
     "ask link": 30 * SECOND, "ask read": SECOND // 10, "ask again": SECOND // 10, "top link": 5 * SECOND, "top again": SECOND // 2,
-    # A packet that a master awaits; the reply of a server of its host.
-    "packet": SECOND, "near reply": SECOND // 250,
+    # A packet that a master awaits, and its pause where none can be had; the reply of a server of its host.
+    "packet": SECOND, "master fails": SECOND // 10, "near reply": SECOND // 250,
 }
 # The reply of a server of another host, and the longest sleep before a request to it: they are looked at by root alone.
 TIMES_OF_OTHERS = {"far reply": SECOND, "far look": SECOND}

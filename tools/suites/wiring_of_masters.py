@@ -130,13 +130,14 @@ def master_whose_address_is_taken(trial):
 class Spoiled(Process):
     """A master whose calls are spoiled."""
 
-    def __init__(self, trial, spoils, words):
-        self.environment = spoils.environment
+    def __init__(self, trial, spoils, words, prefix=()):
+        self.environment, self.prefix = spoils.environment, prefix
         super().__init__(trial, "spoiled", words)
 
     def start(self):
         with open(self.log, "ab") as log:
-            self.running = subprocess.Popen([self.program, *self.words], stdin=subprocess.PIPE, stdout=log, stderr=log, env=self.environment)
+            self.running = subprocess.Popen([*self.prefix, self.program, *self.words], stdin=subprocess.PIPE, stdout=log, stderr=log,
+                                            env=self.environment)
 
 
 @suite.case()
@@ -270,16 +271,21 @@ def status_of_open_masters(trial):
         asked.poll()
     wanted = r'^truetime_master_answers_total\{source="4",key="none"\} 3$'
     trial.check("option status", eventually(lambda: re.search(wanted, read_text(status), re.MULTILINE)), "three answers are not shown")
+    trial.equal("log master_answers, where it was never silent", asked.process.said("master_answers"), [])
 
 
 @suite.case()
 def address_of_masters(trial):
-    """An address that is not up is awaited, and said."""
-    keys = os.path.join(trial.room, "keys")
+    """An address that is not up is awaited, and said, with the pause until it is tried again, which doubles each time."""
+    keys, spoils = os.path.join(trial.room, "keys"), Spoils(trial.room)
     put_keys(keys, f"7 {OLD.hex()}")
-    waiting = trial.process("master", "--source", "1", "--listen", "198.51.100.1:7001", "--uncertainty", "5", "--keys", keys)
+    words = ["master", "--source", "1", "--listen", "198.51.100.1:7001", "--uncertainty", "5", "--keys", keys]
+    waiting = trial.keep(Spoiled(trial, spoils, words))
     trial.logs(waiting, "address_awaited", pause_ns=SECOND)
     trial.equal("option listen", waiting.running.poll(), None)
+    spoils.turn(jump_ns=11 * SECOND)  # no further line comes within ten seconds of the first
+    pauses = eventually(lambda: len(lines := waiting.said("address_awaited")) > 1 and [int(line["pause_ns"]) // SECOND for line in lines], 10)
+    trial.check("log address_awaited", pauses and pauses[1] in (2, 4, 8), f"its pauses are {pauses} seconds")
 
 
 @suite.case()
@@ -293,6 +299,10 @@ def lines_of_keys(trial):
     for line in drawn:
         trial.check("option id", re.fullmatch(r"(0|[1-9][0-9]{0,9}) [0-9a-f]{64}\n", line), line)
     trial.check("option id", drawn[0].split()[0] != drawn[1].split()[0], "the same number twice")
+    spoils = Spoils(trial.room)
+    spoils.tell("random")
+    for words in ([], ["--id", "7"], ["--id", "7", "--name", "host-a"]):
+        trial.equal("option id", trial.command("key", *words, env=spoils.environment).answer, ("refused 1829\n", 4))
     # By chance 57 windows of 4 bytes, either way round, have that number once in 38 million times.
     for number, digits in map(str.split, drawn):
         told = [at for at in range(29) if int(number) in [int.from_bytes(bytes.fromhex(digits)[at:at + 4], order) for order in ("big", "little")]]

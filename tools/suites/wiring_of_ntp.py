@@ -1,8 +1,10 @@
 """Scenarios of the suite `wiring`: a master over servers of NTP of a script. Each of its options, of the numbers of its status and of the lines
 of its log is what its name says. What a reply says is worked out in harness/ntp.py, apart from the program."""
 import contextlib
+import itertools
 import os
 import socket
+import subprocess
 import threading
 import time
 
@@ -10,7 +12,7 @@ from harness.metrics import faults_in, numbers_in
 from harness.ntp import PACKET, SHORT, FakeServer, Key, Says, kiss, stamp_of
 from harness.processes import SECOND
 from harness.program import read_text, write
-from harness.trouble import Spoils
+from harness.trouble import Network, Spoils
 from harness.wire import ANSWER_BYTES, REQUEST, Poll, answer_to, ends_in
 from suites.wiring import suite
 from suites.wiring_checks import OF_MASTERS, eventually, number_of
@@ -139,8 +141,14 @@ def servers_of_masters(trial):
     trial.check("option ntp", Over(trial, [server], every=[OFTEN]).holds(), "it takes what another address says")
     server, = servers_of(trial, Says(strays=10))
     trial.check("option ntp", Over(trial, [server], every=[OFTEN]).holds(), "ten packets before a reply hide it")
+    server = trial.keep(FakeServer(host="::1"))
+    trial.check("option ntp", Over(trial, [server], every=[OFTEN]).holds(), "no answer by a server at an address of IPv6")
     ran = trial.command("master", "--source", "0", "--listen", "127.0.0.1:1", "--ntp", "127.0.0.1:123", "--uncertainty", "5")
     trial.equal("option ntp", ran.status, 2)
+    spoils = Spoils(trial.room)
+    spoils.tell("random")
+    ran = trial.command("master", "--source", "0", "--listen", "127.0.0.1:1", "--ntp", server.address, env=spoils.environment)
+    trial.equal("option ntp", ran.answer, ("refused 1829\n", 4))
 
 
 def nonce_of(request):
@@ -241,6 +249,59 @@ def sleep_of_masters(trial):
     trial.check("option ntp", over.is_silent(), "it answers by what its server said before a sleep")
 
 
+class Elsewhere(Over):
+    """A master over a server on another host, in a network of its own, whose calls are spoiled. It asks its server by itself, and has no client."""
+
+    def __init__(self, trial, network, spoils, server, **options):
+        self.path, self.source, self.nonce = os.path.join(trial.room, "status"), 2, 0
+        words = ["master", "--source", "2", "--listen", "127.0.0.1:5701", "--ntp", server.address, "--status", self.path]
+        self.process = trial.keep(Spoiled(trial, spoils, [*words, *(f"--{name}={value}" for name, value in options.items())], network.enter))
+        self.door = trial.keep(network.inside(lambda: socket.socket(socket.AF_INET, socket.SOCK_DGRAM)))
+        self.door.connect(("127.0.0.1", 5701))
+        trial.logs(self.process, "master_started", SOON_S)
+
+
+@suite.case(root=True, programs=("unshare", "nsenter", "ip"))
+def servers_on_other_hosts(trial):
+    """A server on another host is asked without a poll, and by itself once the host slept. A reply to a request from before a sleep gives no time,
+    also where the master was polled meanwhile."""
+    network, spoils = trial.keep(Network()), Spoils(trial.room)
+    network.do("ip", "addr", "add", "10.77.0.1/32", "dev", "lo")
+    server = trial.keep(network.inside(lambda: FakeServer(host="10.77.0.1", port=5123)))
+    over = Elsewhere(trial, network, spoils, server, every="60s")
+    trial.check("option ntp", eventually(lambda: server.requests, SOON_S), "it is not asked without a poll")
+    trial.check("option ntp", over.holds(), "no answer")
+    slept_ms = [0]
+
+    def sleep():
+        slept_ms[0] += 800
+        spoils.tell("uptime", str(slept_ms[0] * 1_000_000))
+
+    for _ in range(2):
+        asked = len(server.requests)
+        sleep()
+        trial.check("option ntp", eventually(lambda asked=asked: len(server.requests) > asked, SOON_S), "it is not asked anew after a sleep, without a poll")
+    trial.logs(over.process, "host_slept", SOON_S)
+    seen = []
+
+    def sleep_and_reply(request):
+        server.says = Says(silent=True)
+        sleep()
+        seen.append(over.span(0.3))  # the master is told of the sleep by a poll, too
+        return FakeServer.reply_to(request, Says())
+
+    # A reply that comes too late is not taken either, so it is tried a few times.
+    for _ in range(3):
+        server.says = Says()
+        sleep()
+        trial.check("option ntp", over.holds(), "no answer after a sleep")
+        before, server.says = len(seen), Says(packet=sleep_and_reply)
+        sleep()
+        trial.check("option ntp", eventually(lambda before=before: len(seen) > before, SOON_S), "it is not asked anew after a sleep")
+        time.sleep(0.2)
+        trial.equal("option ntp", (seen[-1:], over.span(0.3)), ([None], None))
+
+
 @suite.case()
 def sleep_within_a_request(trial):
     """A reply that comes after the host slept, to a request from before that, gives no time. A master tries again."""
@@ -281,10 +342,13 @@ def sockets_of_masters(trial):
     eventually(lambda: over.numbers()["server_replies_total"][0] > 4, SOON_S)
     server.says = Says(silent=True)
     eventually(lambda asked=len(server.requests): len(server.requests) > asked, SOON_S)
-    for _ in range(2):
+    before = len(server.requests)
+    for _ in range(3):
         first, asked = server.client, len(server.requests)
         trial.check("option ntp", eventually(lambda first=first: server.client != first, SOON_S),
                     f"{len(server.requests) - asked} requests without a reply come from port {first[1] if first else None}")
+    runs = [len(list(same)) for _, same in itertools.groupby(server.ports[before:])]
+    trial.check("option ntp", 4 in runs[1:-1], f"{runs[1:-1]} requests without a reply come from new ports, and 4 are wanted")
     server.says = Says()
     trial.check("option ntp", over.holds(), "no answer once the server replies again")
 

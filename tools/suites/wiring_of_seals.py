@@ -6,7 +6,7 @@ import socket
 import subprocess
 import time
 
-from harness.program import write
+from harness.program import run, write
 from harness.trouble import Network, Spoils, honest, silent
 from harness.wire import REQUEST, sealed
 from suites.wiring import suite
@@ -284,7 +284,12 @@ def addresses_of_a_name(trial):
             door.bind((host, int(last.address.rpartition(":")[2])))
             door.setblocking(False)
         node = trial.node([table(last, 7, "m0.lab.test")], keys=keys_at(trial), poll="70ms", wait="30ms")
-        node.run(["unshare", "--mount", "sh", "-c", 'mount --bind "$0" /etc/hosts && exec "$@"', hosts])
+        with_hosts = ["unshare", "--mount", "sh", "-c", 'mount --bind "$0" /etc/hosts && exec "$@"', hosts]
+        said = run([*with_hosts, trial.program, "serve", "--check", node.path("node.toml")]).said.splitlines()
+        found = [line.split()[2:] for line in said if line.startswith("resolved m0.lab.test ")]
+        port = last.address.rpartition(":")[2]
+        trial.equal("--check", sorted({*sum(found, [])}), [f"127.0.0.{number}:{port}" for number in (2, 3, 4)])
+        node.run(with_hosts)
         trial.check("names", eventually(lambda: len(last.numbers) > 3, 20), "the third address is not asked")
         asked = [polls_at(door) for door in doors]
         trial.check("names", 3 < min(asked) and max(asked) < 30, f"the first two were asked {asked} times")

@@ -2,6 +2,7 @@
 import contextlib
 import os
 import resource
+import shutil
 import socket
 import statistics
 import subprocess
@@ -9,8 +10,8 @@ import time
 from concurrent.futures import ThreadPoolExecutor
 
 from harness.processes import SECOND, free_port, truetime
-from harness.program import read, write
-from harness.trouble import honest, late, silent
+from harness.program import read, run, write
+from harness.trouble import NOBODY, honest, late, silent
 from harness.users import is_closed_within, latest_of, never_read, reply_to
 from suites.wiring import suite
 from suites.wiring_checks import eventually, lies, published, status_of
@@ -479,9 +480,27 @@ def found_beside_machine(trial):
     trial.equal("--check", [line for line in ran.said.splitlines() if line.startswith("warning")],
                 ["warning shared node.toml: it is not a folder", "warning status none: there is no such folder"])
     trial.equal("--check", (ran.status, contents_of(other.folder)), (0, before))
+    other = trial.node(["127.0.0.1:5701"], "D", evidence="nowhere/evidence")
+    ran = trial.command("serve", "--check", other.path("node.toml"), cwd=other.folder)
+    trial.equal("--check", [line for line in ran.said.splitlines() if line.startswith("warning")], ["warning evidence nowhere: there is no such folder"])
     in_root = trial.node(["127.0.0.1:5701"], "C", status="/status")
     warned = [line for line in trial.command("serve", "--check", in_root.path("node.toml")).said.splitlines() if line.startswith("warning")]
     trial.equal("--check", warned, [] if os.access("/", os.W_OK) else ["warning status /: this user may not write it"])
+
+
+@suite.case(root=True)
+def found_by_another_user(trial):
+    """`--check` warns of the folders that the user who calls it may not write, and of no other one."""
+    node = trial.node(["127.0.0.1:5701"], status="of-root/status", shared="own/time", state="own/state")
+    for folder, user in (("of-root", 0), ("own", NOBODY)):
+        os.mkdir(node.path(folder))
+        os.chown(node.path(folder), user, user)
+    for path in (trial.room, node.folder):
+        os.chmod(path, 0o755)
+    shutil.copy(trial.program, os.path.join(trial.room, "ttd"))
+    ran = run([os.path.join(trial.room, "ttd"), "serve", "--check", node.path("node.toml")], cwd=node.folder, user=NOBODY, group=NOBODY, extra_groups=[])
+    warned = [line for line in ran.said.splitlines() if line.startswith("warning")]
+    trial.equal("--check", warned, [f"warning socket {node.folder}: this user may not write it", "warning status of-root: this user may not write it"])
 
 
 # The keys that have to be there, each with a value as a file writes it.
@@ -579,6 +598,9 @@ REFUSED = [
     ({"lease-lo": "1"}, 1802, "lease-lo: unknown key; did you mean lease_lo?"),
     ({"stamper": "[5, 6]"}, 1802, "stamper: unknown key; did you mean stampers?"),
     ({"port": "1"}, 1802, "port: unknown key"),
+    # It differs from `drift` in two of five letters, and in three.
+    ({"drxyt": "1"}, 1802, "drxyt: unknown key; did you mean drift?"),
+    ({"dxyzt": "1"}, 1802, "dxyzt: unknown key"),
     ({'"a b"': "1"}, 1802, '"a b": unknown key'),
     ({"idle": "= 1"}, 1801, "not TOML: "),
 ]
@@ -642,3 +664,10 @@ def refused(trial):
         lines = {key: value for key, value in (NEEDED | changed).items() if value}
         key = "idle" if number == 1801 else message.split(": ")[0]
         is_refused(trial, path, [f"{name} = {value}" for name, value in lines.items()], number, list(lines).index(key) if key in lines else None, message)
+    rest = [f"{name} = {value}" for name, value in NEEDED.items() if name != "machine"]
+    for quoted in ("'machine' = 8", '"machine" = 8'):
+        is_refused(trial, path, [*rest, quoted], 1804, len(rest), "machine: 8 is above 7")
+    for content, line in ((b"#" * 1_048_577, "it is longer than 1048576 bytes"), (b"# \xe9\n", "it is not UTF-8")):
+        write(path, content)
+        ran = trial.command("serve", "--check", path)
+        trial.equal("--check", (ran.answer, ran.error.splitlines()[0]), (("refused 1603\n", 2), f"ttd: {path}: {line}"))

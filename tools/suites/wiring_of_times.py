@@ -17,6 +17,7 @@ from harness.trouble import Answerer, Spoils, disrupt, full_pipe, honest, page, 
 from suites.wiring import suite
 from suites.wiring_checks import TIMES as TIMES_OF_ALL, TIMES_OF_OTHERS, eventually, lies
 from suites.wiring_of_pages import get, with_pages
+from suites.wiring_of_masters import Spoiled
 from suites.wiring_of_seals import FIRST, keys_at, scripted, table
 
 FLAGS = "-Wall", "-Wextra", "-Wshadow", "-Wconversion", "-Werror", "-shared", "-fPIC"
@@ -257,6 +258,19 @@ def waits_of_commands(trial):
     waits_for(trial, top.notes, "receive", "top link")
     waits_for(trial, top.notes, "send", "top link")
     is_near(trial, "top link", top.notes.waits("poll"))
+
+
+@suite.case()
+def pause_of_masters_that_fail(trial):
+    """A master that can receive no packet tries again a tenth of a second later."""
+    spoils, notes = Spoils(trial.room), Notes(trial, "failing")
+    spoils.environment |= {"LD_PRELOAD": f"{spoils.environment['LD_PRELOAD']}:{notes.environment['LD_PRELOAD']}", "NOTES": notes.path}
+    words = ["master", "--source", "0", "--listen", f"127.0.0.1:{free_port(socket.SOCK_DGRAM)}", "--uncertainty", "5"]
+    process = trial.keep(Spoiled(trial, spoils, words))
+    trial.logs(process, "master_started")
+    with spoils.spoiled("receive"):
+        trial.logs(process, "master_failed")
+        waits_for(trial, notes, "sleep", "master fails")
 
 
 @suite.case()

@@ -52,9 +52,9 @@ def top_once(trial):
             trial.check("top", lines[3].endswith(" suspect") and lines[4].endswith(" never"), f"{lines[3:5]}")
             trial.check("top", any(line.endswith("[]") for line in lines[2:7]), "no source holds both ends")
             trial.check("top", ran.said.isascii() and "! 1 suspects\n" in ran.said and "\x1b" not in ran.said, ran.said)
-    wide, plain = (run([trial.program, "top", node.path("node.toml"), "--once", *words], env=PLAIN, cwd=node.folder).said.splitlines()
-                   for words in (("--columns", "80"), ()))
-    trial.equal("top", len(plain[1]), len(wide[1]))
+    wide, plain, other = (run([trial.program, "top", node.path("node.toml"), "--once", *words], env=PLAIN | more, cwd=node.folder).said.splitlines()
+                          for words, more in ((("--columns", "80"), {}), ((), {}), ((), {"COLUMNS": "wide"})))
+    trial.equal("top", (len(plain[1]), len(other[1])), (len(wide[1]), ) * 2)
 
 
 @suite.case()
@@ -115,6 +115,27 @@ def top_of_one_that_falls_silent(trial):
                 f"no source is silent, or another one: {ran and ran.said}")
 
 
+@suite.case()
+def top_of_pages_that_are_none(trial):
+    """An answer with another status than 200 has no numbers, whatever stands there. One that goes on says each time that there is none."""
+    for version in ("1.0", "1.1"):
+        def refuse(door, line, version=version):
+            if line == b"\r\n":
+                door.sendall(f"HTTP/{version} 404 Not Found\r\n\r\n# nothing\n".encode())
+                door.shutdown(socket.SHUT_RDWR)
+
+        address = trial.keep(Answerer(refuse)).address
+        ran = run([trial.program, "top", address, "--once"], env=PLAIN)
+        trial.equal("top", ran.answer, ("refused 1501\n", 4))
+        trial.check("top", ran.error.startswith(f"ttd: {address}: no answer of HTTP with the status 200\n"), ran.error)
+    with subprocess.Popen([trial.program, "top", f"127.0.0.1:{free_port(socket.SOCK_STREAM)}"], env=PLAIN, stdout=subprocess.PIPE) as shown:
+        said = b""
+        while said.count(b"\n") < 2:
+            said += os.read(shown.stdout.fileno(), 65536)
+        shown.kill()
+    trial.check("top", said.startswith(2 * (CLEAR + b"no status can be read\n")), said)
+
+
 def pages_that_say(trial, texts):
     """The address of pages with these texts, by their paths."""
     asked = []
@@ -173,6 +194,12 @@ def top_with_settings(trial):
         ran = run([trial.program, "top", other.path("node.toml"), "--once"], env=PLAIN, cwd=other.folder)
         lines = [line for line in ran.said.splitlines() if line.startswith("    3 ")]
         trial.equal("top", (age, ran.status, [line.endswith(" silent") for line in lines]), (age, 0, [bool(wanted)]))
+    write(other.path("evidence"), b"nothing\n")
+    ran = run([trial.program, "top", other.path("node.toml"), "--once"], env=PLAIN, cwd=other.folder)
+    trial.check("top", ran.error.startswith("ttd: evidence: the text is not the evidence of a publication\n"), ran.error)
+    plain = trial.node(trial.scripts(*[silent] * 5), "C", status=other.path("status"), machine=5)
+    ran = run([trial.program, "top", plain.path("node.toml"), "--once"], env=PLAIN)
+    trial.equal("top", (ran.status, ran.error), (0, f"ttd: {plain.path('node.toml')}: evidence: there are no bars without the path of a file here\n"))
 
 
 @suite.case()
@@ -212,11 +239,15 @@ def top_refused(trial):
     nobody = free_port(socket.SOCK_STREAM)
     masters = trial.scripts(honest)
     without, other, gone = (trial.node(masters, name, status=status) for name, status in (("A", None), ("B", "bad.status"), ("C", "no.status")))
-    for name, text in (("bad.status", "nothing\n"), ("bad.toml", "machine = 9\n")):
-        write(os.path.join(trial.room, name), text.encode())
+    long = trial.node(masters, "D", status="long.status")
+    for name, text in (("bad.status", b"nothing\n"), ("bad.toml", b"machine = 9\n"), ("long.status", b"#" * 1_048_577), ("long.toml", b"#" * 1_048_577),
+                       ("latin.toml", b"# \xe9\n")):
+        write(os.path.join(trial.room, name), text)
     for place, number, status, says in (
             (without.path("node.toml"), 1803, 2, "status"), (other.path("node.toml"), 2601, 2, "ttd: bad.status: the text is not the status"),
             (gone.path("node.toml"), 1604, 4, "ttd: no.status: the status can't be read: No such file"), ("bad.toml", 1804, 2, "machine"), ("nowhere", 1604, 4, "nowhere"),
+            (long.path("node.toml"), 1603, 2, "ttd: long.status: it is longer than 1048576 bytes\n"),
+            ("long.toml", 1603, 2, "ttd: long.toml: it is longer than 1048576 bytes\n"), ("latin.toml", 1603, 2, "ttd: latin.toml: it is not UTF-8\n"),
             (f"127.0.0.1:{nobody}", 1501, 4, f"127.0.0.1:{nobody}: Connection refused")):
         ran = run([trial.program, "top", place, "--once"], env=PLAIN, cwd=trial.room)
         trial.equal("top", (place, *ran.answer), (place, f"refused {number}\n", status))

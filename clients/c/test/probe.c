@@ -7,8 +7,8 @@
  *     probe files < LINES      for each line `open PATH` the same of a file that is not mapped, and for `again` of that file now
  *     probe session < CALLS    for each call of a session, what it gives, `refused N`, `timed out`, `invalid` or `failed`.
  *                              The calls are `open tcp PORT MILLISECONDS`, `open unix PATH MILLISECONDS`, `now`, `after T`,
- *                              `before T`, `lease LO HI`, `begin FLOOR`, `wait`, `commit FLOOR`, `ask LINE`, `close`; and
- *                              `signal`, so that a signal comes 20 ms later
+ *                              `before T`, `lease LO HI`, `begin FLOOR`, `wait`, `commit FLOOR`, `ask LINE`, `close`;
+ *                              `signal`, so that a signal comes 20 ms later; and `told`, the words for the last error
  *     probe stamper < LINES    for each line what a stamper says; tools/suites/clients_of_stampers.py has the lines
  *     probe openings < LINES   for each line what was opened or closed; tools/suites/clients_of_openings.py has the lines
  */
@@ -156,6 +156,7 @@ static int try_sessions(void) {
     char call[256], said[TT_LINE_BYTES + 1];
     memset(&session, 0, sizeof session);
     session.socket = -1;
+    int last = 0;
     while (fgets(call, sizeof call, stdin) != NULL) {
         call[strcspn(call, "\n")] = '\0';
         size_t length = strcspn(call, " ");
@@ -169,9 +170,12 @@ static int try_sessions(void) {
             send_signal();
         else if (strcmp(call, "close") == 0)
             tt_session_close(&session);
-        else
+        else if (strcmp(call, "told") != 0)
             failed = call_session(&session, call, rest, said);
-        if (failed == 0)
+        if (failed != 0) last = failed;
+        if (strcmp(call, "told") == 0)
+            puts(tt_strerror(last));
+        else if (failed == 0)
             puts(said);
         else
             print_error(&session, failed);

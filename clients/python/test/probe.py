@@ -85,9 +85,12 @@ def said_of_error(error):
 
 
 def try_sessions(kind, calls):
-    session, loop = None, asyncio.new_event_loop()
+    session, last, loop = None, None, asyncio.new_event_loop()
     for call in calls:
         name, _, rest = call.rstrip("\n").partition(" ")
+        if name == "told":
+            print(last, flush=True)
+            continue
         try:
             if name == "open":
                 network, where, milliseconds = rest.split(" ")
@@ -98,6 +101,7 @@ def try_sessions(kind, calls):
             session = given if name == "open" else session
             print(said_of_call(name, rest, given), flush=True)
         except (truetime.Refused, OSError, RuntimeError, ValueError) as error:
+            last = str(error)
             print(said_of_error(error), flush=True)
     loop.close()
 

@@ -104,13 +104,20 @@ fn call_session(open: &mut Option<Session>, name: &str, rest: &str) -> Result<St
 }
 
 fn try_sessions() -> io::Result<()> {
-    let mut session = None;
+    let (mut session, mut told) = (None, String::new());
     for line in io::stdin().lines() {
         let line = line?;
+        if line == "told" {
+            println!("{told}");
+            continue;
+        }
         let (name, rest) = line.split_once(' ').unwrap_or((&line, ""));
         match call_session(&mut session, name, rest) {
             Ok(said) => println!("{said}"),
-            Err(error) => println!("{}", said_of_error(&error)),
+            Err(error) => {
+                told = error.to_string();
+                println!("{}", said_of_error(&error))
+            }
         }
     }
     Ok(())

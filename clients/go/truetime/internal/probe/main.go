@@ -82,6 +82,7 @@ func tryFiles(lines *bufio.Scanner) {
 func trySessions(lines *bufio.Scanner) {
 	var session *truetime.Session
 	var timeout time.Duration
+	var last error
 	for lines.Scan() {
 		name, rest, _ := strings.Cut(lines.Text(), " ")
 		text, err := "", error(nil)
@@ -94,8 +95,13 @@ func trySessions(lines *bufio.Scanner) {
 		case "close":
 			session.Close()
 			text = "closed"
+		case "told":
+			text = fmt.Sprint(last)
 		default:
 			text, err = call(session, name, rest, timeout)
+		}
+		if err != nil {
+			last = err
 		}
 		fmt.Println(said(text, err))
 	}

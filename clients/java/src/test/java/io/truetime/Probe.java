@@ -145,6 +145,7 @@ public final class Probe {
 
     private static void trySessions(BufferedReader calls) throws IOException {
         Session session = null;
+        Exception last = null;
         for (String call = calls.readLine(); call != null; call = calls.readLine()) {
             String[] words = call.split(" ", 2);
             String rest = words.length == 2 ? words[1] : "";
@@ -153,12 +154,16 @@ public final class Probe {
                 if (words[0].equals("open")) {
                     session = opened(rest);
                     said = "open";
+                } else if (words[0].equals("told")) {
+                    said = String.valueOf(last);
                 } else {
                     said = given(session, words[0], rest);
                 }
             } catch (TrueTime.Refused | IOException failed) {
+                last = failed;
                 said = said(failed);
             } catch (IllegalStateException | IllegalArgumentException invalid) {
+                last = invalid;
                 said = "invalid";
             }
             System.out.println(said);
