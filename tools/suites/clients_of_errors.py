@@ -169,4 +169,4 @@ def blocks_of_python(trial):
         environment = {**os.environ, "PYTHONPATH": in_top("clients/python"), "PYTHONDONTWRITEBYTECODE": "1"}
         ran = run([sys.executable, "-c", BLOCKS, good, str(service.server_address[1])], env=environment)
     # A mapping keeps a descriptor of its own, as one that is not mapped and a session have one.
-    trial.equal("blocks", (ran.said.splitlines(), ran.error), (["3 1 0 0", "ConnectionError ValueError Refused", "1 0 ConnectionError"], ""))
+    trial.equal("blocks", (ran.said.splitlines(), ran.error), (["3 1 0 0", "ConnectionError Refused Refused", "1 0 ConnectionError"], ""))
