@@ -10,10 +10,12 @@
  *                              `before T`, `lease LO HI`, `begin FLOOR`, `wait`, `commit FLOOR`, `ask LINE`, `close`;
  *                              `signal`, so that a signal comes 20 ms later; and `told`, the words for the last error
  *     probe stamper < LINES    for each line what a stamper says; tools/suites/clients_of_stampers.py has the lines
+ *     probe pending < LINES    for each line what a table says; tools/suites/clients_of_pending.py has the lines
  *     probe openings < LINES   for each line what was opened or closed; tools/suites/clients_of_openings.py has the lines
  */
 #include "../truetime_session.h"
 
+#include "../truetime_pending.h"
 #include "../truetime_stamper.h"
 
 #include <pthread.h>
@@ -336,6 +338,137 @@ static int try_stampers(void) {
     return 0;
 }
 
+enum { MOST_PENDING = 100, MOST_LOGGED = 10000, MOST_SNAPSHOTS = 1000 };
+
+/* What threads that commit and a reader share: the stamps that were written, and what the reader saw at its watermarks. */
+typedef struct watching {
+    tt_pending *table;
+    uint64_t each;
+    pthread_mutex_t lock;
+    uint64_t log[MOST_LOGGED], marks[MOST_SNAPSHOTS];
+    size_t logged, snapshots, seen[MOST_SNAPSHOTS];
+    tt_atomic is_over;
+} watching;
+
+static size_t up_to(const watching *all, uint64_t mark) {
+    size_t count = 0;
+    for (size_t place = 0; place < all->logged; place++) count += all->log[place] <= mark;
+    return count;
+}
+
+static void *write_on(void *given) {
+    watching *all = (watching *)given;
+    for (uint64_t turn = 0; turn < all->each; turn++) {
+        tt_stamp stamp;
+        if (tt_pending_begin(all->table, 0, &stamp) != 0) abort();
+        pthread_mutex_lock(&all->lock);
+        all->log[all->logged++] = stamp.stamp_ns;
+        pthread_mutex_unlock(&all->lock);
+        if (tt_pending_written(all->table, stamp.stamp_ns) != 0) abort();
+    }
+    return NULL;
+}
+
+static void *read_on(void *given) {
+    watching *all = (watching *)given;
+    while (!all->is_over) {
+        uint64_t mark;
+        bool is_one;
+        if (tt_pending_watermark(all->table, &mark, &is_one) != 0 || !is_one) abort();
+        pthread_mutex_lock(&all->lock);
+        size_t place = all->snapshots < MOST_SNAPSHOTS ? all->snapshots++ : all->logged % MOST_SNAPSHOTS;
+        all->marks[place] = mark;
+        all->seen[place] = up_to(all, mark);
+        pthread_mutex_unlock(&all->lock);
+    }
+    return NULL;
+}
+
+static int is_below(const void *one, const void *other) {
+    uint64_t a = *(const uint64_t *)one, b = *(const uint64_t *)other;
+    return a < b ? -1 : a > b;
+}
+
+/* Commits in threads, beside a reader that takes snapshots at the watermark: each has to have all that is written up to it in the
+ * end. */
+static void watch_in_threads(tt_pending *table, uint64_t threads, uint64_t each) {
+    watching *all = (watching *)calloc(1, sizeof *all);
+    pthread_t reader, writers[MOST_PENDING];
+    size_t torn = 0, different = 0;
+    if (all == NULL || threads > MOST_PENDING || threads * each > MOST_LOGGED) abort();
+    all->table = table;
+    all->each = each;
+    pthread_mutex_init(&all->lock, NULL);
+    pthread_create(&reader, NULL, read_on, all);
+    for (uint64_t thread = 0; thread < threads; thread++) pthread_create(&writers[thread], NULL, write_on, all);
+    for (uint64_t thread = 0; thread < threads; thread++) pthread_join(writers[thread], NULL);
+    all->is_over = 1;
+    pthread_join(reader, NULL);
+    for (size_t place = 0; place < all->snapshots; place++) torn += all->seen[place] != up_to(all, all->marks[place]);
+    qsort(all->log, all->logged, sizeof *all->log, is_below);
+    for (size_t place = 0; place < all->logged; place++) different += place == 0 || all->log[place - 1] != all->log[place];
+    printf("%zu stamps, %zu different, %s snapshots, %zu torn\n", all->logged, different, all->snapshots > 0 ? "some" : "no", torn);
+    pthread_mutex_destroy(&all->lock);
+    free(all);
+}
+
+/* Prints what a call of a table gives, or why it gives nothing. */
+static void print_answer(int failed, const char *answer) {
+    if (failed > 0)
+        printf("refused %d\n", failed);
+    else
+        puts(failed < 0 ? "invalid" : answer);
+}
+
+static void call_table(tt_pending *table, const char *line) {
+    uint64_t one, other, clock_ns = 0;
+    tt_stamp stamp;
+    bool is_so = false;
+    char answer[64];
+    if (sscanf(line, "begin %" SCNu64, &one) == 1) {
+        int failed = tt_pending_begin(table, one, &stamp);
+        snprintf(answer, sizeof answer, "begun %" PRIu64, stamp.stamp_ns);
+        print_answer(failed, answer);
+    } else if (sscanf(line, "written %" SCNu64, &one) == 1) {
+        print_answer(tt_pending_written(table, one), "ended");
+    } else if (sscanf(line, "given_up %" SCNu64, &one) == 1) {
+        print_answer(tt_pending_give_up(table, one), "ended");
+    } else if (sscanf(line, "release %" SCNu64 "%" SCNu64, &one, &other) == 2 && tt_clock(&clock_ns) == 0) {
+        int failed = tt_pending_release(table, one, clock_ns + other * 1000000, &is_so);
+        print_answer(failed, is_so ? "yes" : "no");
+    } else if (sscanf(line, "readable %" SCNu64 "%" SCNu64, &one, &other) == 2 && tt_clock(&clock_ns) == 0) {
+        int failed = tt_pending_make_readable(table, one, clock_ns + other * 1000000, &is_so);
+        print_answer(failed, is_so ? "yes" : "no");
+    } else if (sscanf(line, "threads %" SCNu64 "%" SCNu64, &one, &other) == 2) {
+        watch_in_threads(table, one, other);
+    } else {
+        int failed = tt_pending_watermark(table, &one, &is_so);
+        snprintf(answer, sizeof answer, "%" PRIu64, one);
+        print_answer(failed, is_so ? answer : "none");
+    }
+}
+
+static int try_tables(void) {
+    tt_client client;
+    tt_stamper stamper;
+    tt_pending table;
+    uint64_t stamps[MOST_PENDING];
+    char line[512], path[256];
+    if (fgets(line, sizeof line, stdin) == NULL || sscanf(line, "open %255s", path) != 1 || tt_open(&client, path, geteuid()) != 0 ||
+        tt_stamper_open(&stamper, &client, 0, TT_MAX_TIME_NS) != 0 || tt_stamper_limit(&stamper, TT_MAX_AHEAD_NS, 1) != 0 ||
+        tt_pending_open(&table, &stamper, stamps, MOST_PENDING) != 0)
+        return 3;
+    puts("open");
+    fflush(stdout);
+    while (fgets(line, sizeof line, stdin) != NULL) {
+        call_table(&table, line);
+        fflush(stdout);
+    }
+    tt_pending_close(&table);
+    tt_close(&client);
+    return 0;
+}
+
 /* What is opened many times: a reader, one with a stamper, or a session. */
 typedef struct opening {
     tt_client client;
@@ -410,7 +543,8 @@ int main(int count, char **words) {
     if (count == 2 && strcmp(words[1], "files") == 0) return try_files();
     if (count == 2 && strcmp(words[1], "session") == 0) return try_sessions();
     if (count == 2 && strcmp(words[1], "stamper") == 0) return try_stampers();
+    if (count == 2 && strcmp(words[1], "pending") == 0) return try_tables();
     if (count == 2 && strcmp(words[1], "openings") == 0) return try_openings();
-    fprintf(stderr, "usage: probe vectors | probe open PATH | probe files | probe session | probe stamper | probe openings\n");
+    fprintf(stderr, "usage: probe vectors | probe open PATH | probe files | probe session | probe stamper | probe pending | probe openings\n");
     return 2;
 }

@@ -3,6 +3,7 @@
 /* Tests of what no probe shows: owners by name, causes, names of hosts, and observers. The folder to work in is its argument. */
 #include "../truetime.h"
 #include "../truetime_session.h"
+#include "../truetime_pending.h"
 #include "../truetime_stamper.h"
 
 #include <arpa/inet.h>
@@ -115,6 +116,17 @@ static void try_processes(const char *path) {
     check(is_rising, "stamps of each process rise");
     check(is_different, "no two stamps are the same");
     munmap(all, sizeof *all);
+    /* A table of two commits at most. */
+    uint64_t stamps[2];
+    tt_pending table;
+    tt_stamp one, two, three;
+    stamper.shared_ns = NULL;
+    check(tt_pending_open(&table, &stamper, stamps, 2) == 0, "a table");
+    check(tt_pending_begin(&table, 0, &one) == 0 && tt_pending_begin(&table, 0, &two) == 0, "two commits");
+    check(tt_pending_begin(&table, 0, &three) == -ENOBUFS && three.stamp_ns == 0, "a third one");
+    check(tt_pending_give_up(&table, one.stamp_ns) == 0 && tt_pending_begin(&table, 0, &three) == 0, "a third one behind the first");
+    check(tt_pending_written(&table, three.stamp_ns) == 0 && tt_pending_written(&table, two.stamp_ns) == 0, "all are ended");
+    tt_pending_close(&table);
     check(tt_stamper_limit(&stamper, TT_MAX_AHEAD_NS + 1, 1) == -EINVAL && stamper.ahead_ns == TT_AHEAD_NS, "a limit that is too great");
     check(tt_stamper_limit(&stamper, 0, 0) == -EINVAL && tt_stamper_limit(&stamper, 0, TT_MAX_GRID_NS + 1) == -EINVAL, "no grid");
     check(stamper.grid_ns == 1 && tt_stamper_limit(&stamper, 0, TT_MAX_GRID_NS) == 0, "the widest grid");

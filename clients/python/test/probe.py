@@ -184,6 +184,67 @@ def try_stampers(lines):
             print("refused", refused.number, flush=True)
 
 
+def watch_in_threads(table, threads, each):
+    """So many commits in each of so many threads, and a reader that takes snapshots at the watermark beside them: each has to have all that is
+    written up to it in the end."""
+    log, snapshots, over = [], [], threading.Event()
+
+    def commit_on():
+        for _ in range(each):
+            stamp = table.begin()
+            log.append(stamp)
+            table.written(stamp)
+
+    def read_on():
+        while not over.is_set():
+            watermark = table.watermark()
+            snapshots.append((watermark, sum(stamp <= watermark for stamp in log[:])))
+
+    reader, running = threading.Thread(target=read_on), [threading.Thread(target=commit_on) for _ in range(threads)]
+    for thread in reader, *running:
+        thread.start()
+    for thread in running:
+        thread.join()
+    over.set()
+    reader.join()
+    torn = sum(seen != sum(stamp <= watermark for stamp in log) for watermark, seen in snapshots[:: max(len(snapshots) // 100, 1)])
+    return f"{len(log)} stamps, {len(set(log))} different, {'some' if snapshots else 'no'} snapshots, {torn} torn"
+
+
+def call_table(table, name, words):
+    """Makes a call of a table of pending commits; the line that it gives."""
+    numbers = [int(word) for word in words]
+    if name == "threads":
+        return watch_in_threads(table, *numbers)
+    if name in ("release", "readable"):
+        wait = table.release if name == "release" else table.make_readable
+        return "yes" if wait(numbers[0], numbers[1] / 1000) else "no"
+    if name == "watermark":
+        watermark = table.watermark()
+        return "none" if watermark is None else watermark
+    if name == "begin":
+        return f"begun {table.begin(*numbers)}"
+    (table.written if name == "written" else table.give_up)(*numbers)
+    return "ended"
+
+
+def try_tables(lines):
+    table = None
+    for line in lines:
+        name, *words = line.split()
+        try:
+            if name == "open":
+                client = truetime.Client(words[0], os.geteuid())
+                table = truetime.PendingTable(truetime.Stamper(client, ahead_ns=truetime.MAX_AHEAD_NS))
+                print("open", flush=True)
+            else:
+                print(call_table(table, name, words), flush=True)
+        except truetime.Refused as refused:
+            print("refused", refused.number, flush=True)
+        except ValueError:
+            print("invalid", flush=True)
+
+
 def commit_in_threads(pool, threads, each, is_alone):
     """So many commits in each of so many threads; what they gave."""
     given = []
@@ -344,6 +405,8 @@ elif sys.argv[1:] == ["asyncio", "session"]:
     try_sessions(aio.Session, sys.stdin)
 elif sys.argv[1:] == ["stamper"]:
     try_stampers(sys.stdin)
+elif sys.argv[1:] == ["pending"]:
+    try_tables(sys.stdin)
 elif sys.argv[1:] == ["pool"]:
     try_pools(None, sys.stdin)
 elif sys.argv[1:] == ["asyncio", "pool"]:
@@ -353,5 +416,5 @@ elif sys.argv[1:] == ["openings"]:
 elif sys.argv[1:] == ["asyncio", "openings"]:
     try_openings(asyncio.new_event_loop(), sys.stdin)
 else:
-    sys.exit("usage: probe.py vectors | probe.py open PATH | probe.py files | probe.py [asyncio] session | probe.py stamper | "
+    sys.exit("usage: probe.py vectors | probe.py open PATH | probe.py files | probe.py [asyncio] session | probe.py stamper | probe.py pending | "
              "probe.py [asyncio] pool | probe.py [asyncio] openings")

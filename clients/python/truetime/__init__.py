@@ -34,6 +34,7 @@ a little-endian 64-bit machine, Python 3.9 or later, and nothing but the standar
 import logging
 
 from ._calls import LONG_WAIT_S, TIMEOUT_S, Interval
+from .pending import PendingTable
 from .pools import Pool
 from .readers import MAX_DRIFT_PPM, Client, Publication, Reading
 from .refusals import MAX_TIME_NS, CommitPending, Refused, SessionLost
@@ -55,6 +56,7 @@ __all__ = [
     "Client",
     "CommitPending",
     "Interval",
+    "PendingTable",
     "Pool",
     "Publication",
     "Reading",

@@ -67,6 +67,11 @@ class Stamper:
         self._least_free_ns = 0
         self._lock = threading.Lock()
 
+    @property
+    def client(self) -> Client:
+        """The reader."""
+        return self._client
+
     def extend(self, lease_hi_ns: int) -> None:
         """Has the lease end later, while other threads stamp. It never ends earlier by this. Refuses with 102."""
         if lease_hi_ns > MAX_TIME_NS:

@@ -3,11 +3,12 @@ use std::env;
 use std::fs;
 use std::io::{self, BufWriter, Write};
 use std::os::unix::fs::MetadataExt;
-use std::sync::Barrier;
+use std::sync::atomic::{AtomicBool, Ordering};
+use std::sync::{Barrier, Mutex};
 use std::thread;
 use std::time::{Duration, Instant};
-use truetime::stamper::{Lease, Stamp};
-use truetime::{Client, Error, Pool, Pooled, Publication, Session, Stamper};
+use truetime::stamper::{Lease, Stamp, MAX_AHEAD_NS};
+use truetime::{Client, Error, PendingTable, Pool, Pooled, Publication, Session, Stamper};
 
 fn answer_vectors() -> io::Result<()> {
     let mut out = BufWriter::new(io::stdout().lock());
@@ -134,7 +135,7 @@ fn said_of_error(error: &Error) -> String {
             how(error) + &commit + if *had_lease { " lease" } else { "" }
         }
         Error::NotReleased | Error::NoSession => "timed out".to_string(),
-        Error::NoCommit | Error::BadLine => "invalid".to_string(),
+        Error::NoCommit | Error::BadLine | Error::NotPending => "invalid".to_string(),
         Error::PoolClosed => "failed".to_string(),
         _ => format!("refused {}", error.number().unwrap_or(0)),
     }
@@ -309,6 +310,78 @@ enum Opening {
     Session(Session),
 }
 
+/// So many commits in each of so many threads, and a reader that takes snapshots at the watermark beside them: each has to have all
+/// that is written up to it in the end.
+fn watch_in_threads(table: &PendingTable, [threads, each]: [u64; 2]) -> String {
+    let (log, is_over) = (Mutex::new(Vec::new()), AtomicBool::new(false));
+    let count = |log: &Vec<u64>, mark: u64| log.iter().filter(|stamp_ns| **stamp_ns <= mark).count();
+    let commit_on = || {
+        for _ in 0..each {
+            let stamp_ns = table.begin(0).expect("a stamp");
+            log.lock().expect("no panic").push(stamp_ns);
+            table.written(stamp_ns).expect("it is pending");
+        }
+    };
+    let snapshots = thread::scope(|scope| {
+        let reader = scope.spawn(|| {
+            let mut snapshots = Vec::new();
+            while !is_over.load(Ordering::Acquire) {
+                let mark = table.watermark().expect("a reading").expect("a time");
+                snapshots.push((mark, count(&log.lock().expect("no panic"), mark)));
+            }
+            snapshots
+        });
+        let running: Vec<_> = (0..threads).map(|_| scope.spawn(commit_on)).collect();
+        running.into_iter().for_each(|thread| thread.join().expect("a thread"));
+        is_over.store(true, Ordering::Release);
+        reader.join().expect("a thread")
+    });
+    let mut log = log.into_inner().expect("no panic");
+    let torn = snapshots.iter().filter(|(mark, seen)| count(&log, *mark) != *seen).count();
+    let all = log.len();
+    log.sort_unstable();
+    log.dedup();
+    let some = if snapshots.is_empty() { "no" } else { "some" };
+    format!("{all} stamps, {} different, {some} snapshots, {torn} torn", log.len())
+}
+
+fn call_table(table: &PendingTable, name: &str, rest: &str) -> Result<String, Error> {
+    let one = || numbers_of::<1>(rest)[0];
+    let in_time = |milliseconds| Instant::now() + Duration::from_millis(milliseconds);
+    let yes_or_no = |answer| String::from(if answer { "yes" } else { "no" });
+    match name {
+        "begin" => table.begin(one()).map(|stamp_ns| format!("begun {stamp_ns}")),
+        "written" => table.written(one()).map(|()| "ended".to_string()),
+        "given_up" => table.give_up(one()).map(|()| "ended".to_string()),
+        "watermark" => Ok(table.watermark()?.map_or("none".to_string(), |mark| mark.to_string())),
+        "threads" => Ok(watch_in_threads(table, numbers_of(rest))),
+        _ => {
+            let [t_ns, milliseconds] = numbers_of(rest);
+            let deadline = in_time(milliseconds);
+            let answer = if name == "release" { table.release(t_ns, deadline) } else { table.make_readable(t_ns, deadline) };
+            answer.map(yes_or_no)
+        }
+    }
+}
+
+fn try_tables() -> io::Result<()> {
+    let mut table = None;
+    for line in io::stdin().lines() {
+        let line = line?;
+        let (name, rest) = line.split_once(' ').unwrap_or((&line, ""));
+        let said = match (&table, name) {
+            (_, "open") => Client::open(rest, user()).and_then(|client| {
+                table = Some(PendingTable::new(Stamper::new(client).limited(MAX_AHEAD_NS, 1)?));
+                Ok("open".to_string())
+            }),
+            (Some(table), _) => call_table(table, name, rest),
+            (None, _) => Err(Error::NotPending),
+        };
+        println!("{}", said.unwrap_or_else(|error| said_of_error(&error)));
+    }
+    Ok(())
+}
+
 const QUESTIONS: usize = 3;
 
 impl Opening {
@@ -367,8 +440,9 @@ fn main() -> io::Result<()> {
         ["files"] => try_files(),
         ["session"] => try_sessions(),
         ["stamper"] => try_stampers(),
+        ["pending"] => try_tables(),
         ["pool"] => try_pools(),
         ["openings"] => try_openings(),
-        _ => panic!("usage: probe vectors | probe open PATH | probe files | probe session | probe stamper | probe pool | probe openings"),
+        _ => panic!("usage: probe vectors | probe open PATH | probe files | probe session | probe stamper | probe pending | probe pool | probe openings"),
     }
 }

@@ -157,6 +157,8 @@ pub enum Error {
     BadLine,
     /// A limit of a stamper is out of range.
     BadLimit,
+    /// No such commit is pending in a table, or the one that is to be released is not written.
+    NotPending,
     /// No session of a pool is free in time.
     NoSession,
     /// The pool is closed.
@@ -200,6 +202,7 @@ impl fmt::Display for Error {
             Error::NoCommit => out.write_str("no commit was begun"),
             Error::BadLine => out.write_str("the line is too long or has a line feed"),
             Error::BadLimit => out.write_str("a limit of the stamper is out of range"),
+            Error::NotPending => out.write_str("no such commit is pending, or it is not written"),
             Error::NoSession => out.write_str("no session of the pool is free in time"),
             Error::PoolClosed => out.write_str("the pool is closed"),
         }

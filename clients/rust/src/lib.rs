@@ -22,11 +22,13 @@ compile_error!("truetime needs Linux on a little-endian 64-bit machine");
 
 mod error;
 mod os;
+mod pending;
 mod pool;
 pub mod session;
 pub mod stamper;
 
 pub use error::{Error, FileFault, Pending, Refused};
+pub use pending::PendingTable;
 pub use pool::{Pool, Pooled};
 pub use session::Session;
 pub use stamper::Stamper;

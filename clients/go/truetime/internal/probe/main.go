@@ -32,12 +32,14 @@ func main() {
 		trySessions(lines)
 	case len(words) == 1 && words[0] == "stamper":
 		tryStampers(lines)
+	case len(words) == 1 && words[0] == "pending":
+		tryTables(lines)
 	case len(words) == 1 && words[0] == "pool":
 		tryPools(lines)
 	case len(words) == 1 && words[0] == "openings":
 		tryOpenings(lines)
 	default:
-		fmt.Fprintln(os.Stderr, "usage: probe vectors | probe open PATH | probe files | probe session | probe stamper | probe pool | probe openings")
+		fmt.Fprintln(os.Stderr, "usage: probe vectors | probe open PATH | probe files | probe session | probe stamper | probe pending | probe pool | probe openings")
 		os.Exit(2)
 	}
 }
@@ -281,6 +283,118 @@ func stampInGoroutines(out *bufio.Writer, stamper *truetime.Stamper, goroutines,
 	fmt.Fprintln(out, "end")
 }
 
+// watchInGoroutines commits so often in each of so many goroutines, beside a reader that takes snapshots at the watermark: each has
+// to have all that is written up to it in the end.
+func watchInGoroutines(table *truetime.PendingTable, goroutines, each int) (string, error) {
+	var mutex sync.Mutex
+	var log []int64
+	upTo := func(mark int64) (count int) {
+		for _, stamp := range log {
+			if stamp <= mark {
+				count++
+			}
+		}
+		return count
+	}
+	over, read := make(chan struct{}), make(chan struct{})
+	var marks []int64
+	var seen []int
+	go func() {
+		defer close(read)
+		for {
+			select {
+			case <-over:
+				return
+			default:
+			}
+			mark, _, err := table.Watermark()
+			if err != nil {
+				panic(err)
+			}
+			mutex.Lock()
+			marks, seen = append(marks, mark), append(seen, upTo(mark))
+			mutex.Unlock()
+		}
+	}()
+	var all sync.WaitGroup
+	for goroutine := 0; goroutine < goroutines; goroutine++ {
+		all.Add(1)
+		go func() {
+			defer all.Done()
+			for turn := 0; turn < each; turn++ {
+				stamp, err := table.Begin(0)
+				if err != nil {
+					panic(err)
+				}
+				mutex.Lock()
+				log = append(log, stamp)
+				mutex.Unlock()
+				if err := table.Written(stamp); err != nil {
+					panic(err)
+				}
+			}
+		}()
+	}
+	all.Wait()
+	close(over)
+	<-read
+	torn, different := 0, map[int64]bool{}
+	for place, mark := range marks {
+		if upTo(mark) != seen[place] {
+			torn++
+		}
+	}
+	for _, stamp := range log {
+		different[stamp] = true
+	}
+	some := map[bool]string{true: "some", false: "no"}[len(marks) > 0]
+	return fmt.Sprintf("%d stamps, %d different, %s snapshots, %d torn", len(log), len(different), some, torn), nil
+}
+
+// callTable makes a call of a table of pending commits, and says what it gives.
+func callTable(table *truetime.PendingTable, name string, n []uint64) (string, error) {
+	switch name {
+	case "begin":
+		stamp, err := table.Begin(signed(n[0]))
+		return fmt.Sprint("begun ", stamp), err
+	case "written":
+		return "ended", table.Written(signed(n[0]))
+	case "given_up":
+		return "ended", table.GiveUp(signed(n[0]))
+	case "watermark":
+		mark, isOne, err := table.Watermark()
+		return map[bool]string{true: strconv.FormatInt(mark, 10), false: "none"}[isOne], err
+	case "threads":
+		return watchInGoroutines(table, int(n[0]), int(n[1]))
+	}
+	ctx, cancel := context.WithTimeout(context.Background(), time.Duration(n[1])*time.Millisecond)
+	defer cancel()
+	wait := map[bool]func(context.Context, int64) (bool, error){true: table.Release, false: table.MakeReadable}[name == "release"]
+	is, err := wait(ctx, signed(n[0]))
+	if errors.Is(err, context.DeadlineExceeded) {
+		err = nil
+	}
+	return map[bool]string{true: "yes", false: "no"}[is], err
+}
+
+func tryTables(lines *bufio.Scanner) {
+	var table *truetime.PendingTable
+	for lines.Scan() {
+		name, rest, _ := strings.Cut(lines.Text(), " ")
+		if name != "open" {
+			fmt.Println(said(callTable(table, name, numbers(rest))))
+			continue
+		}
+		client, err := truetime.Open(rest, strconv.Itoa(os.Geteuid()))
+		if err == nil {
+			stamper := truetime.NewStamper(client)
+			err = stamper.SetLimits(truetime.MaxAhead, 1)
+			table = truetime.NewPendingTable(stamper)
+		}
+		fmt.Println(said("open", err))
+	}
+}
+
 // A pooled is a pool, and what is out of it.
 type pooled struct {
 	*truetime.Pool
@@ -487,7 +601,7 @@ func said(text string, err error) string {
 		return saidOfBroken(broken)
 	case errors.Is(err, os.ErrDeadlineExceeded), errors.Is(err, context.DeadlineExceeded):
 		return "timed out"
-	case errors.Is(err, truetime.ErrNoCommit), errors.Is(err, truetime.ErrBadLine):
+	case errors.Is(err, truetime.ErrNoCommit), errors.Is(err, truetime.ErrBadLine), errors.Is(err, truetime.ErrNotPending):
 		return "invalid"
 	case errors.Is(err, truetime.ErrPoolClosed):
 		return "failed"

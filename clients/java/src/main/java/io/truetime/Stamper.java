@@ -91,6 +91,11 @@ public final class Stamper {
         this.gridNs = gridNs;
     }
 
+    /** The earliest of a reading taken in this call. */
+    long earliestNs() {
+        return client.now().earliestNs();
+    }
+
     /** Has the lease end later, while other threads stamp. It never ends earlier by this. Refuses with 102. */
     public void extend(long leaseHiNs) {
         if (isBelow(TrueTime.MAX_TIME_NS, leaseHiNs)) {

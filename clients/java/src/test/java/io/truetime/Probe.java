@@ -14,6 +14,7 @@ import java.util.ArrayList;
 import java.util.Deque;
 import java.util.HashSet;
 import java.util.List;
+import java.util.OptionalLong;
 import java.util.Queue;
 import java.util.concurrent.Callable;
 import java.util.concurrent.ConcurrentLinkedQueue;
@@ -23,6 +24,7 @@ import java.util.concurrent.ExecutorService;
 import java.util.concurrent.Executors;
 import java.util.concurrent.Future;
 import java.util.concurrent.TimeUnit;
+import java.util.concurrent.atomic.AtomicBoolean;
 import java.util.concurrent.atomic.AtomicInteger;
 import java.util.function.Supplier;
 
@@ -279,6 +281,95 @@ public final class Probe {
         }
     }
 
+    private static long upTo(List<Long> log, long mark) {
+        return log.stream().filter(stamp -> stamp <= mark).count();
+    }
+
+    /**
+     * So many commits in each of so many threads, and a reader that takes snapshots at the watermark beside them: each has to have
+     * all that is written up to it in the end.
+     */
+    private static String watchInThreads(PendingTable table, int threads, int each) throws InterruptedException, ExecutionException {
+        List<Long> log = new ArrayList<>();
+        AtomicBoolean isOver = new AtomicBoolean();
+        ExecutorService running = Executors.newFixedThreadPool(threads + 1);
+        Future<List<long[]>> reader = running.submit(() -> {
+            List<long[]> snapshots = new ArrayList<>();
+            while (!isOver.get()) {
+                long mark = table.watermark().getAsLong();
+                synchronized (log) {
+                    snapshots.add(new long[] {mark, upTo(log, mark)});
+                }
+            }
+            return snapshots;
+        });
+        List<Future<?>> writers = new ArrayList<>();
+        for (int thread = 0; thread < threads; thread++) {
+            writers.add(running.submit(() -> {
+                for (int turn = 0; turn < each; turn++) {
+                    long stamp = table.begin(0);
+                    synchronized (log) {
+                        log.add(stamp);
+                    }
+                    table.written(stamp);
+                }
+            }));
+        }
+        for (Future<?> writer : writers) {
+            writer.get();
+        }
+        isOver.set(true);
+        running.shutdown();
+        long torn = reader.get().stream().filter(snapshot -> snapshot[1] != upTo(log, snapshot[0])).count();
+        return log.size() + " stamps, " + new HashSet<>(log).size() + " different, " + (reader.get().isEmpty() ? "no" : "some")
+            + " snapshots, " + torn + " torn";
+    }
+
+    /** What a call of a table of pending commits gives. */
+    private static String tabled(PendingTable table, String name, long[] n) throws InterruptedException, ExecutionException {
+        switch (name) {
+            case "begin":
+                return "begun " + table.begin(n[0]);
+            case "written":
+                table.written(n[0]);
+                return "ended";
+            case "given_up":
+                table.giveUp(n[0]);
+                return "ended";
+            case "release":
+                return table.release(n[0], Duration.ofMillis(n[1])) ? "yes" : "no";
+            case "readable":
+                return table.makeReadable(n[0], Duration.ofMillis(n[1])) ? "yes" : "no";
+            case "watermark":
+                OptionalLong mark = table.watermark();
+                return mark.isEmpty() ? "none" : Long.toString(mark.getAsLong());
+            default:
+                return watchInThreads(table, (int) n[0], (int) n[1]);
+        }
+    }
+
+    private static void tryTables(BufferedReader calls) throws IOException, InterruptedException, ExecutionException {
+        PendingTable table = null;
+        for (String call = calls.readLine(); call != null; call = calls.readLine()) {
+            String[] words = call.split(" ");
+            String said;
+            try {
+                if (words[0].equals("open")) {
+                    TrueTime client = TrueTime.open(Path.of(words[1]), System.getProperty("user.name"));
+                    table = new PendingTable(new Stamper(client, 0, TrueTime.MAX_TIME_NS, Stamper.MAX_AHEAD_NS, 1));
+                    said = "open";
+                } else {
+                    said = tabled(table, words[0], numbers(words, 1));
+                }
+            } catch (TrueTime.Refused refused) {
+                said = "refused " + refused.number();
+            } catch (IllegalStateException invalid) {
+                said = "invalid";
+            }
+            System.out.println(said);
+        }
+    }
+
     /** So many commits by a pool. */
     private static void commitOn(Pool pool, int each, Queue<Long> stamps, AtomicInteger errors) {
         for (int turn = 0; turn < each; turn++) {
@@ -445,6 +536,10 @@ public final class Probe {
         }
         if (words.length == 1 && words[0].equals("stamper")) {
             tryStampers(lines);
+            return;
+        }
+        if (words.length == 1 && words[0].equals("pending")) {
+            tryTables(lines);
             return;
         }
         if (words.length == 1 && words[0].equals("pool")) {
