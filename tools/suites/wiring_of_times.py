@@ -15,7 +15,7 @@ from harness.processes import SECOND, Process, free_port, truetime
 from harness.program import compile_c, read_text, write
 from harness.trouble import Answerer, Spoils, disrupt, full_pipe, honest, page, silent
 from suites.wiring import suite
-from suites.wiring_checks import TIMES as TIMES_OF_ALL, TIMES_OF_OTHERS, eventually, lies
+from suites.wiring_checks import HERE, TIMES as TIMES_OF_ALL, TIMES_OF_OTHERS, eventually, lies, places_of
 from suites.wiring_of_pages import get, with_pages
 from suites.wiring_of_seals import FIRST, keys_at, scripted, table
 
@@ -156,12 +156,12 @@ def ends_once_its_last_is_shared(trial):
 
 @suite.case()
 def ends_once_all_is_written(trial):
-    """A machine whose lines and status are written waits for nothing more at its end, in one of five lives at least: the host may be busy."""
-    node, took = trial.node(trial.scripts(honest)), []
+    """A machine whose lines, status and evidence are written waits for nothing more at its end, in one of five lives at least: the host may be busy."""
+    node, took = trial.node(trial.scripts(honest), evidence=f"{trial.room}/evidence"), []
     for _ in range(5):
         node.run()
         node.wait_until_ready()
-        eventually(lambda: os.path.exists(node.path("status")))
+        eventually(lambda: os.path.exists(node.path("status")) and os.path.exists(f"{trial.room}/evidence"))
         node.running.stdin.close()
         node.running.wait(20)
         took.append(time.time_ns() - int(node.said("ended")[-1]["time"]))
@@ -312,9 +312,9 @@ def longest_session(trial):
 
 @suite.case()
 def slow_publications(trial):
-    """One that lasts a second longer than `wait` is told of within a second more, and one that is made at once never is, however long the pause
-    behind it."""
-    quick = trial.running_node(trial.scripts(honest), "E", poll="3s", wait="50ms")
+    """One that lasts a second longer than `wait` is told of within a second more, and one that is made within `wait` never is, however long the pauses
+    before and behind it."""
+    quick = trial.running_node(trial.scripts(honest, honest, silent), "E", poll="3s", wait="900ms")
     spoiled = [trial.spoilable(trial.scripts(honest), name, wait="50ms", poll="50ms") for name in "BCD"]
     with contextlib.ExitStack() as stack:
         for _, spoils in spoiled:
@@ -329,26 +329,16 @@ def slow_publications(trial):
 
 # Addresses and files.
 
-def places_of(process):
-    """At which addresses of this host the sockets of a process are, as the kernel writes them."""
-    folder = f"/proc/{process.running.pid}/fd"
-    inodes = {os.readlink(os.path.join(folder, name)) for name in os.listdir(folder)}
-    rows = [line.split() for kind in ("tcp", "tcp6", "udp", "udp6") if os.path.exists(f"/proc/net/{kind}")
-            for line in read_text(f"/proc/net/{kind}").splitlines()[1:]]
-    return sorted({row[1].partition(":")[0] for row in rows if f"socket:[{row[9]}]" in inodes})
-
-
 @suite.case()
 def addresses(trial):
     """All sockets of a machine whose masters are on its host are at 127.0.0.1, and so is that of a master: no other host reaches them."""
     node, _ = with_pages(trial, trial.scripts(honest), machine=1)
     node.run()
     node.wait_until_ready()
-    here = socket.inet_aton("127.0.0.1")[::-1].hex().upper()
-    trial.equal("setting listen", places_of(node), [here])
+    trial.equal("setting listen", places_of(node), [HERE])
     master = trial.process("master", "--source", "0", "--listen", f"127.0.0.1:{free_port(socket.SOCK_DGRAM)}", "--uncertainty", "5")
     trial.logs(master, "master_started")
-    trial.equal("option listen", places_of(master), [here])
+    trial.equal("option listen", places_of(master), [HERE])
 
 
 @suite.case()
