@@ -10,7 +10,7 @@ import time
 
 from harness.processes import SECOND, fields_of
 from harness.program import read, write
-from harness.trouble import Spoils, disrupt, full_pipe, hold_lock, honest, page, silent
+from harness.trouble import Spoils, disrupt, full_pipe, hold_lock, honest, late, page, silent
 from suites.breaks_world import is_valid
 from suites.wiring import suite
 from suites.wiring_checks import HERE, eventually, lies, places_of, published, status_of
@@ -299,8 +299,8 @@ def standard_error_that_takes_nothing(trial):
                 came += os.read(reading, 65536)
 
     lines, ours = take(WINDOWS, 1.0)
-    late = [line for line in lines[:1 + LINES_THAT_WAIT] if line["time"] > drained]
-    trial.equal("log source_silent", (len(lines) > LINES_THAT_WAIT, late), (True, []))
+    later = [line for line in lines[:1 + LINES_THAT_WAIT] if line["time"] > drained]
+    trial.equal("log source_silent", (len(lines) > LINES_THAT_WAIT, later), (True, []))
     low = len(masters[0].polls)
     spoils.turn(jump_ns=11 * SECOND)
     _, ours = take(len(ours) + 1)
@@ -329,7 +329,7 @@ def calls_that_fail(trial):
     first = node.resources()[1]
     rounds = status_of(node)["rounds"]
     trial.check("status rounds", eventually(lambda: status_of(node)["rounds"] > rounds + 1), "no rounds once the clock is right again")
-    masters = trial.scripts(honest)
+    masters = trial.scripts(late(0.05))
     spoils, node = Spoils(node.folder), trial.node(masters, "B", poll="3s", wait="5s")
     node.environment = spoils.environment
     with spoils.spoiled("receive"):

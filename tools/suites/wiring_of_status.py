@@ -560,11 +560,12 @@ def commits(trial):
 @suite.case()
 def nothing_is_kept(trial):
     """A machine has as many descriptors and threads as before, and no more memory, once sessions have ended in each way, pages were asked for in whole
-    and in part, its shared file was removed, and its socket for polls failed."""
+    and in part, its shared file was removed, and its socket for polls failed. No thread works where little is to be done: also of a session that is
+    alone again, for which its worker may wait."""
     port, path = free_port(socket.SOCK_STREAM), os.path.join(trial.room, "vmclock0")
     write(path, page(1))
     node, spoils = trial.spoilable(trial.scripts(honest), http=f"127.0.0.1:{port}", evidence=f"{trial.room}/evidence", on_break="warn", vmclock=path,
-                                   poll="50ms", wait="50ms", floor_ahead="10s")
+                                   poll="200ms", wait="50ms", floor_ahead="10s")
     lines = b"now\n", b"commit 1 0\nnow\n", b"no", b"GET / HTTP/1.1\r\n\r\n", b"commit 1 %d\n" % (time.time_ns() + 9 * SECOND)
 
     def live():
@@ -580,13 +581,21 @@ def nothing_is_kept(trial):
                             door.shutdown(socket.SHUT_WR)
                     if number % 4 == 2:
                         reset(door)
+            # One that takes no reply, and leaves once nothing more is taken of it.
+            door = doors.enter_context(socket.socket(socket.AF_UNIX))
+            door.settimeout(0.3)
+            door.connect(node.path("socket"))
+            with contextlib.suppress(OSError):
+                while door.send(b"now\n" * 1000):
+                    pass
+            door.close()
             for place in ("/metrics", "/evidence", "/health", "/nothing") * 5:
                 get(port, place)
             with contextlib.suppress(OSError):
                 os.remove(node.path("shared"))
             with spoils.spoiled("receive"):
                 time.sleep(0.4)
-        eventually(lambda: (status := status_of(node))["sessions_open"] == 0 and status["sharing"] == 1)
+        trial.numbers(node, sessions_open=0, busy=0, commits_waiting=0, waiting=0, sharing=1)
         with truetime.Session(node.address, 5) as session:
             session.now()
         time.sleep(2.2)  # a page has two seconds in all
@@ -596,6 +605,25 @@ def nothing_is_kept(trial):
     live()
     said, is_more = node.keeps_more(before, node.resources())
     trial.check("resources", not is_more, said)
+    with contextlib.ExitStack() as doors:
+        kept = [doors.enter_context(truetime.Session(address, 5)) for address in (node.address, node.path("socket"))]
+        with contextlib.ExitStack() as others:
+            for session in [others.enter_context(truetime.Session(address, 5)) for address in (node.address, node.path("socket")) * 4] + kept:
+                session.now()
+        eventually(lambda: status_of(node)["sessions_open"] == 2)
+        for session in kept:
+            session.now()
+        time.sleep(0.3)
+        began = spent_by_threads(node)
+        time.sleep(1.5)
+        most = max(nanoseconds - began.get(task, 0) for task, nanoseconds in spent_by_threads(node).items())
+    trial.between("processor time of a thread", 0, most, SECOND // 10)
+
+
+def spent_by_threads(node):
+    """The processor time of each of its threads."""
+    tasks = f"/proc/{node.running.pid}/task"
+    return {task: int(read_text(f"{tasks}/{task}/schedstat").split()[0]) for task in os.listdir(tasks)}
 
 
 @suite.case()

@@ -323,7 +323,7 @@ def slow_publications(trial):
             lasted = int(trial.logs(node, "publication_slow").get("lasted_ns", 0))
             least = TIMES["slow"] + 50 * MILLISECOND
             trial.between("time slow", least, lasted, least + TIMES["records"] + SECOND)
-    eventually(lambda: quick.status()["truetime_rounds_total"] >= 2)
+    trial.check("time slow", eventually(lambda: quick.status()["truetime_rounds_total"] >= 3, 12), "its rounds do not go on")
     trial.equal("time slow", quick.said("publication_slow"), [])
 
 
