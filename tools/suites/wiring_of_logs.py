@@ -143,8 +143,8 @@ def evidence_that_fails(trial):
 
 @suite.case()
 def sleep_that_is_not_seen(trial):
-    """The uptime cannot be read."""
-    spoils, node = Spoils(trial.room), trial.node(trial.scripts(honest))
+    """The uptime cannot be read, then it can, and the host sleeps twice; and then it cannot be read again."""
+    spoils, node = Spoils(trial.room), trial.node(trial.scripts(honest), on_break="warn")
     spoils.tell("no-uptime")
     node.environment = spoils.environment
     node.run()
@@ -157,11 +157,20 @@ def sleep_that_is_not_seen(trial):
     # It can be read again, and then it cannot. Of one kind a line comes each ten seconds.
     os.remove(spoils.path("no-uptime"))
     trial.numbers(node, sleep_unseen=0, slept=0, breaks=0)
+
+    def sleeps(number):
+        """The host sleeps for four fifths of a second once more, and the log tells of that alone."""
+        spoils.tell("uptime", str(number * 800_000_000))
+        lines = eventually(lambda: len(lines := node.said("host_slept")) == number and lines) or [{}]
+        trial.between("log host_slept", SECOND * 77 // 100, int(lines[-1].get("slept_ns", 0)), SECOND * 80 // 100)
+
+    sleeps(1)
     time.sleep(10.2)
+    sleeps(2)
     trial.equal("log sleep_unseen", len(node.said("sleep_unseen")), 1)
     spoils.tell("no-uptime")
     trial.check("log sleep_unseen", eventually(lambda: len(node.said("sleep_unseen")) == 2), "it is not said a second time")
-    trial.numbers(node, sleep_unseen=1, slept=0, breaks=0)
+    trial.between("status slept", SECOND * 154 // 100, trial.numbers(node, sleep_unseen=1, breaks=2)["slept"], SECOND * 160 // 100)
 
 
 @suite.case()
@@ -336,9 +345,13 @@ def calls_that_fail(trial):
         node.run()
         # The socket is made anew a tenth of a second later, and then each time twice as long behind the time before, whatever `poll` is.
         trial.logs(node, "socket_renewed", number=1501, pause_ns=SECOND // 10)
-        time.sleep(2)
-    trial.between("log socket_renewed", 3, len(masters[0].polls), 6)
-    trial.logs(node, "first_publication")
+        time.sleep(1)
+        trial.between("log socket_renewed", 3, len(masters[0].polls), 6)
+        spoils.turn(jump_ns=11 * SECOND)
+        lines = eventually(lambda: len(lines := node.said("socket_renewed")) > 1 and lines, 8) or [{}]
+        wanted = min(SECOND // 10 << 1 + int(lines[-1].get("left_out", 0)), 5 * SECOND)
+        trial.equal("log socket_renewed", int(lines[-1].get("pause_ns", 0)), wanted)
+    trial.logs(node, "first_publication", 12)
     trial.between("status round_trip", 0, eventually(lambda: status_of(node)["round_trip"][0]), SECOND)
     trial.equal("setting listen", places_of(node), [HERE])
     trial.equal("descriptors behind renewals", eventually(lambda: node.resources()[1] == first) and first, first)

@@ -172,6 +172,9 @@ def ages(trial):
     is_right = eventually(look)
     for name in ("age", "newest", "needed"):
         trial.check(f"status {name}", is_right, f"the ages of sources, the newest and the needed, and that of the second are {seen[-3:]}")
+    # Publications go on, and are fresh for three periods behind the last answer of the second source.
+    last, shown = masters[1].times[3] + time.monotonic_ns() - time.time_ns(), published(node)
+    trial.between("shared valid_until_ns", SECOND * 55 // 100, shown.valid_until_ns - last, SECOND * 11 // 10)
     before = status_of(node)
     time.sleep(1)
     after = status_of(node)

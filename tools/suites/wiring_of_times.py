@@ -5,6 +5,7 @@ clock sees one that tools/spoil_calls.c moves on.
 """
 import contextlib
 import os
+import resource
 import socket
 import stat
 import subprocess
@@ -97,6 +98,41 @@ def waits_of_machines(trial):
     with socket.create_connection(("127.0.0.1", port), 5):
         trial.check("time page", eventually(lambda: of_pages() > before), "no page waits as long for its client")
     waits_for(trial, notes, "park", "records", others=[(70 * MILLISECOND, 70 * MILLISECOND)])
+
+
+@suite.case()
+def waits_for_the_only_session(trial):
+    """A worker whose only session need not share it waits for its bytes alone, and for no descriptors between two lines: also again once more
+    sessions than it may have were open, and two were turned away."""
+    before = resource.getrlimit(resource.RLIMIT_NOFILE)
+    resource.setrlimit(resource.RLIMIT_NOFILE, (150, before[1]))
+    try:
+        node, notes = trial.node(trial.scripts(honest), workers=2, poll="200ms", floor_ahead="10s"), Notes(trial, "machine")
+        node.environment = notes.environment
+        node.run()
+        node.wait_until_ready()
+    finally:
+        resource.setrlimit(resource.RLIMIT_NOFILE, before)
+    room = int(trial.logs(node, "descriptors", limit=150)["sessions"]) // 2
+    for number, address in enumerate((node.address, node.path("socket")), 1):
+        with contextlib.ExitStack() as stack:
+            for _ in range(room + 2):
+                door = stack.enter_context(socket.socket(socket.AF_UNIX if isinstance(address, str) else socket.AF_INET))
+                door.settimeout(5)
+                door.connect(address)
+                with contextlib.suppress(OSError):
+                    door.sendall(b"commit 1 %d\n" % (time.time_ns() + 9 * SECOND))
+                    door.recv(64)
+        trial.numbers(node, unserved=2 * number, sessions_open=0)
+        with truetime.Session(address, 5) as session:
+            for _ in range(3):
+                session.now()
+            time.sleep(0.3)
+            waits = sum(words[0] == "poll" for words in notes.calls())
+            for _ in range(100):
+                session.now()
+            waits = sum(words[0] == "poll" for words in notes.calls()) - waits
+        trial.between(f"waits for descriptors at {address} while 100 lines come", 0, waits, 50)
 
 
 @suite.case()
