@@ -187,15 +187,15 @@ def names_of_masters(trial):
 
 
 @suite.case()
-def addresses_of_a_name(trial):
+def two_addresses_of_a_name(trial):
     """Of a name with two addresses the first is asked until it has been silent for as long as four rounds last, and then the next; one that answers
     is asked on, and once it falls silent the first again."""
     local = scripted(trial, {7: FIRST}, honest)
     port = int(local.address.rpartition(":")[2])
     spoils = Spoils(trial.room)
     spoils.tell("addresses", "127.0.0.2 127.0.0.1")
-    masters = [table(local, 7, "localhost"), *({"address": master.address} for master in trial.scripts(honest, honest))]
-    node = trial.node(masters, keys=keys_at(trial), poll="400ms", wait="100ms")
+    first, last = ({"address": master.address} for master in trial.scripts(honest, honest))
+    node = trial.node([first, table(local, 7, "localhost"), last], keys=keys_at(trial), poll="400ms", wait="100ms")
     node.environment = spoils.environment
     with socket.socket(socket.AF_INET, socket.SOCK_DGRAM) as door:
         door.bind(("127.0.0.2", port))
@@ -210,7 +210,7 @@ def addresses_of_a_name(trial):
             return number
 
         node.run()
-        trial.logs(node, "source_resolved", source=0, address=f"127.0.0.2:{port}")
+        trial.logs(node, "source_resolved", source=1, address=f"127.0.0.2:{port}")
         trial.check("setting master", eventually(lambda: local.times), "the next address is not asked")
         began = int(trial.logs(node, "started").get("time", 0))
         trial.between("for how long a silent address is asked", 1.9, (local.times[0] - began) / SECOND if local.times else 0, 5)
