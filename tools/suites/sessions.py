@@ -188,14 +188,23 @@ def the_worker_with_the_fewest(trial):
 
 @suite.case()
 def more_than_may_wait(trial):
-    """Of 300 that come while the only worker waits for another one 256 wait for it, and the others once it has taken these."""
-    node = trial.node_of_two()
+    """Of 300 that come while the only worker waits for another one 256 wait for it, and the others once it has taken these. A status is not always of
+    that moment."""
+    node = trial.running_node(trial.masters(3), workers=2, socket=os.path.join(trial.room, "A", "socket"), poll="20ms", wait="20ms")
     with contextlib.ExitStack() as stack:
-        doors = [Door(stack, node.path("socket"))]
-        doors[0].now()
-        doors += [Door(stack, node.path("socket")) for _ in range(300)]
-        yield from node.comes_to("sessions_open", 301, 2)
-        yield from wrong_in(doors)[0]
+        first = Door(stack, node.path("socket"))
+        for _ in range(4):
+            with contextlib.ExitStack() as leaves:
+                first.now()
+                doors = [first] + [Door(leaves, node.path("socket")) for _ in range(300)]
+                end, most = time.monotonic() + 0.25, 0
+                while time.monotonic() < end:
+                    most = max(most, (node.status_or_none() or {}).get("truetime_connections_waiting", 0))
+                if most > 256:
+                    yield f"{most} wait"
+                yield from node.comes_to("sessions_open", 301, 2)
+                yield from wrong_in(doors)[0]
+            yield from node.comes_to("sessions_open", 1, 2)
 
 
 def measure(doors, rounds):
