@@ -228,14 +228,14 @@ def signs_within_the_first_round(trial):
 @suite.case()
 def no_descriptors(trial):
     """None is left for a connection."""
-    node = trial.running_node(trial.scripts(honest))
+    masters = trial.scripts(honest)
+    node = trial.running_node(masters)
     node.allow_no_more_descriptors()
     with socket.create_connection(node.address, 5):
         trial.logs(node, "not_accepted", errno=errno.EMFILE)
-        rounds = status_of(node)["rounds"] if os.path.exists(node.path("status")) else 0
-        time.sleep(0.6)
-    # The file that shows whether the host slept stays open.
-    trial.check("status rounds", eventually(lambda: status_of(node)["rounds"] > rounds + 1), "they do not go on")
+        polls = len(masters[0].polls)
+        # The file that shows whether the host slept stays open.
+        trial.check("log not_accepted", eventually(lambda: len(masters[0].polls) > polls + 2), "its rounds do not go on")
     trial.equal("log sleep_unseen", node.said("sleep_unseen"), [])
 
 
