@@ -1,8 +1,9 @@
 /* Spoils calls of the program that it is loaded into, each kind for as long as a file of its name is in the folder that SPOIL names:
  * the monotonic clock shows ten seconds less (`clock`), no packet is received (`receive`), none is sent to port N (`send-N`), sending
- * one lasts until the file is gone (`sending`), and so do a rename (`rename`), a write at a place of a file (`writing`) and a look for the
- * addresses of a name (`lookup`); a connection takes seven bytes at a time (`few`); there are no random bytes (`random`), and no IPv6 (`six`).
- * Each look for addresses adds a byte to the file `lookups`, if it is there. It stands before the C library by LD_PRELOAD.
+ * one lasts until the file is gone (`sending`), and so do a rename (`rename`), a write at a place of a file (`writing`), a look for the
+ * addresses of a name (`lookup`) and a look at the real-time clock (`telling`); a connection takes seven bytes at a time (`few`); there are
+ * no random bytes (`random`), and no IPv6 (`six`). Each look for addresses adds a byte to the file `lookups`, if it is there, and finds
+ * those that the file `addresses` has, if that is there. It stands before the C library by LD_PRELOAD.
  *
  * Others say in their file what is shown. `course` has lines FROM SHOWN RATE, in nanoseconds and parts per million: once the monotonic
  * clock shows FROM it shows SHOWN, and runs by RATE faster; so it stands still by a RATE of -1000000. /proc/uptime goes with that clock, as
@@ -84,6 +85,7 @@ static long long ahead_at(long long now) {
 }
 
 int clock_gettime(clockid_t clock, struct timespec *time) {
+    if (clock == CLOCK_REALTIME) last("telling");
     int status = (int)syscall(SYS_clock_gettime, clock, time);
     if (status == 0 && clock == CLOCK_MONOTONIC) {
         long long now = nanoseconds_in(*time), shown = now + ahead_at(now);
@@ -179,11 +181,19 @@ int rename(const char *from, const char *to) {
 
 int getaddrinfo(const char *name, const char *service, const struct addrinfo *hints, struct addrinfo **found) {
     int (*look)(const char *, const char *, const struct addrinfo *, struct addrinfo **);
-    char path[PATH_BYTES];
+    char path[PATH_BYTES], text[PATH_BYTES], *rest = NULL;
     int file = open(path_of("lookups", path), O_WRONLY | O_APPEND | O_CLOEXEC);
     if (file >= 0) syscall(SYS_write, file, ".", 1);
     if (file >= 0) close(file);
     last("lookup");
     *(void **)&look = dlsym(RTLD_NEXT, "getaddrinfo");
-    return look(name, service, hints, found);
+    ssize_t length = content_of("addresses", text, sizeof text - 1);
+    if (length < 0) return look(name, service, hints, found);
+    text[length] = 0;
+    for (char *one = strtok_r(text, " ", &rest); one; one = strtok_r(NULL, " ", &rest)) {
+        int status = look(one, service, hints, found);
+        if (status != 0) return status;
+        while (*found) found = &(*found)->ai_next;
+    }
+    return 0;
 }

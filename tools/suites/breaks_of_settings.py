@@ -89,6 +89,41 @@ def nothing_after_a_break(trial):
 
 
 @suite.case()
+def nothing_once_it_breaks(trial):
+    """Sessions have no reading, stamp or release as soon as the shared file has none, also while the line of the log is still under way: old sessions
+    and one that comes then."""
+    path = os.path.join(trial.room, "vmclock0")
+    write(path, page(1))
+    spoils, node = Spoils(trial.room), trial.node(trial.masters(3), vmclock=path, floor_ahead="10s", workers=6)
+    node.environment = spoils.environment
+    node.run()
+    node.wait_until_ready()
+    time.sleep(0.3)
+    with contextlib.ExitStack() as doors:
+        waiting, other = (doors.enter_context(socket.create_connection(node.address, 5)) for _ in range(2))
+        line = b"commit 1 %d\n" % (time.time_ns() + 5 * SECOND)
+        for door, text, begin in ((waiting, line, b"waiting 1 "), (other, b"now\n", b"now ")):
+            door.sendall(text)
+            if not (reply := door.recv(100)).startswith(begin):
+                yield f"{text} is answered {reply}"
+        with spoils.spoiled("telling"):
+            disrupt(path, 2)
+            if not eventually(lambda: trial.command("read", node.path("shared")).answer == ("refused 801\n", 2)):
+                yield "`ttd read` has a reading"
+            new = doors.enter_context(socket.create_connection(node.address, 5))
+            replies = []
+            for door, text in ((waiting, line), (other, b"now\n"), (other, b"commit 2 0\n"), (new, b"now\n")):
+                door.sendall(text)
+                replies.append(door.recv(100))
+            if replies != [b"refused 1823\n"] * 4:
+                yield f"sessions get {replies}"
+            if node.said("guest_disrupted") or node.running.poll() is not None:
+                yield "it was told before"
+    if eventually(node.running.poll) != BROKEN:
+        yield f"it ended with status {node.running.returncode}"
+
+
+@suite.case()
 def ends_before_its_input(trial):
     """A machine that ends with its input ends by a break though that is open."""
     path = os.path.join(trial.room, "vmclock0")

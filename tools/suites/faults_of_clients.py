@@ -209,25 +209,30 @@ def commit_of_a_half_closed_client(trial):
 
 @suite.case()
 def pending_commits_of_a_half_closed_client(trial):
-    """A commit that is asked for again and again is refused by 1822 once `idle` is over. Each such line waits for a twentieth of a second. On a
-    busy host a line may take so long that the session ends with it."""
+    """A commit that is asked for again and again is refused by 1822 once `idle` is over, also where its client was still there when it was first asked
+    for. Each such line waits for a twentieth of a second. On a busy host a line may take so long that the session ends with it."""
     node = trial.running_node(trial.masters(3), workers=1, socket=None, floor_ahead="10s", idle="1s")
-    refused = 0
-    for _ in range(4):
-        floor, replies = far_floor(node.address), b""
-        with socket.create_connection(node.address, 8) as door:
-            door.sendall(f"commit 1 {floor}\n".encode() * 100)
-            door.shutdown(socket.SHUT_WR)
-            with contextlib.suppress(OSError):
-                while part := door.recv(65536):
-                    replies += part
-        words = [b" ".join(line.split()[:2]) for line in replies.splitlines()]
-        waiting, refused = words.count(b"waiting 1"), words.count(b"refused 1822")
-        if waiting > 25 or words != [b"waiting 1"] * waiting + [b"refused 1822"] * refused:
-            yield f"{waiting} replies are waiting, and behind them are {words[waiting:][:3]}, {len(words)} in all"
-        if refused:
-            return
-    yield "none is refused"
+    for first in (False, True):
+        for _ in range(4):
+            line, replies = f"commit 1 {far_floor(node.address)}\n".encode(), b""
+            with socket.create_connection(node.address, 8) as door:
+                if first:
+                    door.sendall(line)
+                    replies = door.recv(100)
+                    time.sleep(0.1)
+                door.sendall(line * 100)
+                door.shutdown(socket.SHUT_WR)
+                with contextlib.suppress(OSError):
+                    while part := door.recv(65536):
+                        replies += part
+            words = [b" ".join(line.split()[:2]) for line in replies.splitlines()]
+            waiting, refused = words.count(b"waiting 1"), words.count(b"refused 1822")
+            if waiting > 26 or words != [b"waiting 1"] * waiting + [b"refused 1822"] * refused:
+                yield f"{waiting} replies are waiting, and behind them are {words[waiting:][:3]}, {len(words)} in all"
+            if refused:
+                break
+        else:
+            yield f"none is refused where {'a line' if first else 'nothing'} was answered before the client closed its side"
 
 
 @suite.case()

@@ -188,14 +188,23 @@ def the_worker_with_the_fewest(trial):
 
 @suite.case()
 def more_than_may_wait(trial):
-    """Of 300 that come while the only worker waits for another one 256 wait for it, and the others once it has taken these."""
-    node = trial.node_of_two()
+    """Of 300 that come while the only worker waits for another one 256 wait for it, and the others once it has taken these. A status is not always of
+    that moment."""
+    node = trial.running_node(trial.masters(3), workers=2, socket=os.path.join(trial.room, "A", "socket"), poll="20ms", wait="20ms")
     with contextlib.ExitStack() as stack:
-        doors = [Door(stack, node.path("socket"))]
-        doors[0].now()
-        doors += [Door(stack, node.path("socket")) for _ in range(300)]
-        yield from node.comes_to("sessions_open", 301, 2)
-        yield from wrong_in(doors)[0]
+        first = Door(stack, node.path("socket"))
+        for _ in range(4):
+            with contextlib.ExitStack() as leaves:
+                first.now()
+                doors = [first] + [Door(leaves, node.path("socket")) for _ in range(300)]
+                end, most = time.monotonic() + 0.25, 0
+                while time.monotonic() < end:
+                    most = max(most, (node.status_or_none() or {}).get("truetime_connections_waiting", 0))
+                if most > 256:
+                    yield f"{most} wait"
+                yield from node.comes_to("sessions_open", 301, 2)
+                yield from wrong_in(doors)[0]
+            yield from node.comes_to("sessions_open", 1, 2)
 
 
 def measure(doors, rounds):
@@ -546,16 +555,19 @@ def requests_of_http(trial):
 
 @suite.case()
 def silent_clients_are_let_go(trial):
-    """After `idle` without a whole line, where they are alone and where they are not; one that sends lines stays."""
+    """After `idle` without a whole line, where they are alone and where they are not, also where nobody else of their worker sends anything; one that
+    sends lines stays."""
     for workers in (1, 8):
-        node = trial.running_node(trial.masters(3), "AB"[workers > 1], workers=workers, idle="1s")
+        folder = os.path.join(trial.room, "AB"[workers > 1])
+        node = trial.running_node(trial.masters(3), "AB"[workers > 1], workers=2 * workers, socket=os.path.join(folder, "socket"), idle="1s")
         with contextlib.ExitStack() as stack:
             silent, partial, steady = (Door(stack, node.address) for _ in range(3))
+            one, other = (Door(stack, node.path("socket")) for _ in range(2))
             began, ends = time.monotonic(), {}
             steady.now()
             while time.monotonic() < began + 3.2:
                 time.sleep(0.05)
-                for name, door, text in (("silent", silent, b""), ("partial", partial, b"n")):
+                for name, door, text in (("silent", silent, b""), ("partial", partial, b"n"), ("first of two", one, b""), ("second of two", other, b"")):
                     if name not in ends:
                         with contextlib.suppress(OSError):
                             door.send(text)
@@ -563,7 +575,7 @@ def silent_clients_are_let_go(trial):
                             ends[name] = time.monotonic() - began
                 if what := steady.now()[0]:
                     yield what
-            for name in ("silent", "partial"):
+            for name in ("silent", "partial", "first of two", "second of two"):
                 if not 0.95 <= ends.get(name, 0) <= 2.8:
                     yield f"with {workers} workers the {name} client was let go after {ends.get(name)} seconds, and idle is one"
             if not steady.is_open():

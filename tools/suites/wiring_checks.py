@@ -237,6 +237,19 @@ def published(node, number=1, seconds=6.0):
     return eventually(look, seconds)
 
 
+# 127.0.0.1 as the kernel writes it in the list of sockets.
+HERE = "0100007F"
+
+
+def places_of(process):
+    """At which addresses of this host the sockets of a process are, as the kernel writes them."""
+    folder = f"/proc/{process.running.pid}/fd"
+    inodes = {os.readlink(os.path.join(folder, name)) for name in os.listdir(folder)}
+    rows = [line.split() for kind in ("tcp", "tcp6", "udp", "udp6") if os.path.exists(f"/proc/net/{kind}")
+            for line in read_text(f"/proc/net/{kind}").splitlines()[1:]]
+    return sorted({row[1].partition(":")[0] for row in rows if f"socket:[{row[9]}]" in inodes})
+
+
 # Keys.
 
 def put_keys(path, *lines):

@@ -2,16 +2,18 @@
 import contextlib
 import errno
 import os
+import select
 import shutil
 import socket
+import struct
 import time
 
-from harness.processes import SECOND
+from harness.processes import SECOND, fields_of
 from harness.program import read, write
-from harness.trouble import Spoils, disrupt, hold_lock, honest, page, silent
+from harness.trouble import Spoils, disrupt, full_pipe, hold_lock, honest, late, page, silent
 from suites.breaks_world import is_valid
 from suites.wiring import suite
-from suites.wiring_checks import eventually, lies, published, status_of
+from suites.wiring_checks import HERE, eventually, lies, places_of, published, status_of
 
 
 @suite.case()
@@ -36,15 +38,16 @@ def loose_files(trial):
 
 @suite.case()
 def shared_file_that_fails(trial):
-    """Its folder is there only later, its lock is held for a while, and it is removed."""
+    """Its folder is there only later, its lock is held for a while, and it is removed. It is tried again a pause between rounds later at first,
+    however long a round waits."""
     place = os.path.join(trial.room, "place")
     write(place, b"")
-    node = trial.node(trial.scripts(honest), "A", shared=os.path.join(place, "shared"))
+    node = trial.node(trial.scripts(honest), "A", shared=os.path.join(place, "shared"), wait="10s")
     node.run()
     trial.logs(node, "sharing_ended", number=1701)
     trial.numbers(node, sharing=0)
     os.remove(place)
-    trial.logs(node, "sharing_resumed", 10)
+    trial.logs(node, "sharing_resumed", 7)
     trial.numbers(node, sharing=1)
     node = trial.node(trial.scripts(honest), "B")
     write(node.path("shared.lock"), b"")
@@ -129,12 +132,19 @@ def evidence_that_fails(trial):
     eventually(lambda: node.running.poll() is not None)
     is_there = os.path.exists(f"{path}.break-2") and is_valid(trial.program, f"{path}.break-2")
     trial.check("setting evidence", is_there, "behind a break the later one is not there where the one before can't be written")
+    # A machine that could write all before says so of the earlier one alone.
+    masters, other = trial.scripts(honest), os.path.join(trial.room, "other")
+    node = trial.running_node(masters, "B", evidence=other)
+    trial.check("setting evidence", eventually(lambda: is_valid(trial.program, other)), "nothing valid is there")
+    os.makedirs(f"{other}.break-1.new/kept")
+    masters[0].acts = [lies(5 * SECOND)]
+    trial.logs(node, "evidence_unwritten", errno=errno.EISDIR)
 
 
 @suite.case()
 def sleep_that_is_not_seen(trial):
-    """The uptime cannot be read."""
-    spoils, node = Spoils(trial.room), trial.node(trial.scripts(honest))
+    """The uptime cannot be read, then it can, and the host sleeps twice; and then it cannot be read again."""
+    spoils, node = Spoils(trial.room), trial.node(trial.scripts(honest), on_break="warn")
     spoils.tell("no-uptime")
     node.environment = spoils.environment
     node.run()
@@ -147,11 +157,20 @@ def sleep_that_is_not_seen(trial):
     # It can be read again, and then it cannot. Of one kind a line comes each ten seconds.
     os.remove(spoils.path("no-uptime"))
     trial.numbers(node, sleep_unseen=0, slept=0, breaks=0)
+
+    def sleeps(number):
+        """The host sleeps for four fifths of a second once more, and the log tells of that alone."""
+        spoils.tell("uptime", str(number * 800_000_000))
+        lines = eventually(lambda: len(lines := node.said("host_slept")) == number and lines) or [{}]
+        trial.between("log host_slept", SECOND * 77 // 100, int(lines[-1].get("slept_ns", 0)), SECOND * 80 // 100)
+
+    sleeps(1)
     time.sleep(10.2)
+    sleeps(2)
     trial.equal("log sleep_unseen", len(node.said("sleep_unseen")), 1)
     spoils.tell("no-uptime")
     trial.check("log sleep_unseen", eventually(lambda: len(node.said("sleep_unseen")) == 2), "it is not said a second time")
-    trial.numbers(node, sleep_unseen=1, slept=0, breaks=0)
+    trial.between("status slept", SECOND * 154 // 100, trial.numbers(node, sleep_unseen=1, breaks=2)["slept"], SECOND * 160 // 100)
 
 
 @suite.case()
@@ -161,6 +180,7 @@ def starts_after_breaks(trial):
     write(path, page(1))
     node = trial.node(trial.scripts(honest), vmclock=path)
     node.words.remove("--until-eof")
+    counted = []
     for breaks, pause_ns in ((0, 0), (1, SECOND // 10), (2, SECOND // 5)):
         node.run()
         node.wait_until_ready()
@@ -171,23 +191,69 @@ def starts_after_breaks(trial):
         time.sleep(0.3)  # the counter is read for the first time behind the first round
         disrupt(path, breaks + 2)
         trial.equal("setting on_break", eventually(node.running.poll), 3)
+        # The last status counts it, where it was written before the end, and the shared file has the number of the last publication.
+        status = status_of(node)
+        counted.append(status["breaks"])
+        [(epoch, number)] = withdrawn_in(node)
+        trial.equal("shared epoch", epoch, breaks + 1)
+        if status["breaks"]:
+            trial.between("shared number", status["publications"] - 1, number, status["publications"])
+    trial.check("status breaks", set(counted) <= {0, 1} and 1 in counted, f"it is {counted} at the ends of three lives")
     trial.equal("log guest_disrupted", len(node.said("guest_disrupted")), 3)
+
+
+def withdrawn_in(node):
+    """The epoch and the number of each publication in its shared file by which nothing is published any more."""
+    slots = [struct.unpack_from("<9Q", read(node.path("shared")), at) for at in (64, 192)]
+    return [(slot[5], slot[6]) for slot in slots if slot[0] and slot[8] == 0]
+
+
+@suite.case()
+def signs_within_the_first_round(trial):
+    """What the host shows is looked at before the first poll: it is noticed behind the first round that the host slept within it, and that a guest was
+    disrupted."""
+    path, masters = os.path.join(trial.room, "vmclock0"), trial.scripts(silent)
+    write(path, page(1))
+    spoils, node = Spoils(trial.room), trial.node(masters, on_break="warn", vmclock=path, wait="2s")
+    node.environment = spoils.environment
+    node.run()
+    eventually(lambda: masters[0].polls, pause_s=0.005)
+    spoils.tell("uptime", str(800_000_000))
+    disrupt(path, 2)
+    trial.between("log host_slept", SECOND * 77 // 100, int(trial.logs(node, "host_slept").get("slept_ns", 0)), SECOND * 80 // 100)
+    trial.logs(node, "guest_disrupted")
+    trial.numbers(node, breaks=2)
 
 
 @suite.case()
 def no_descriptors(trial):
     """None is left for a connection."""
-    node = trial.running_node(trial.scripts(honest))
+    masters = trial.scripts(honest)
+    node = trial.running_node(masters)
     node.allow_no_more_descriptors()
     with socket.create_connection(node.address, 5):
         trial.logs(node, "not_accepted", errno=errno.EMFILE)
+        polls = len(masters[0].polls)
+        # The file that shows whether the host slept stays open.
+        trial.check("log not_accepted", eventually(lambda: len(masters[0].polls) > polls + 2), "its rounds do not go on")
+    trial.equal("log sleep_unseen", node.said("sleep_unseen"), [])
 
 
 @suite.case()
 def left_out_lines(trial):
-    """Within ten seconds of a line those of its kind are counted, and the next one tells how many there were."""
+    """Within ten seconds of a line those of its kind are counted, and the next one tells how many there were. Of what is over no line comes later."""
     masters = trial.scripts(honest, silent, honest)
-    node = trial.running_node(masters, poll="200ms", log="json")
+    node, spoils = trial.spoilable(masters, poll="200ms", log="json")
+    with spoils.spoiled(f"send-{masters[2].address.split(':')[1]}"):
+        trial.logs(node, "source_unsent", source=2)
+    with socket.socket(socket.AF_INET, socket.SOCK_DGRAM) as door:
+        door.sendto(b"x" * 60, masters[0].machine)
+        trial.logs(node, "stranger")
+    published(node)
+    os.remove(node.path("shared"))
+    trial.logs(node, "sharing_ended", number=1705)
+    trial.logs(node, "sharing_resumed")
+    once, over = ("source_unsent", "stranger", "sharing_ended", "sharing_resumed"), time.monotonic()
 
     def look():
         lines = [line for line in node.said("source_silent") if line["source"] == "1"]
@@ -199,6 +265,62 @@ def left_out_lines(trial):
     polls = sum(first <= moment <= last for moment in masters[1].times)
     trial.between("log source_silent", polls - 2, int(lines[-1].get("left_out", -9)), polls + 1)
     trial.has_form("setting log", node, "json")
+    time.sleep(max(0.0, over + 10.7 - time.monotonic()))
+    for event in once:
+        trial.equal(f"log {event}", len(node.said(event)), 1)
+
+
+# How many lines wait at most behind the one that is being written, and how many come of each window of ten seconds in which 16 sources are silent.
+LINES_THAT_WAIT, LINES_OF_A_WINDOW, WINDOWS = 256, 17, 20
+
+
+@suite.case()
+def standard_error_that_takes_nothing(trial):
+    """Of what it does not take 256 lines wait behind one, and more are left out and counted, by a clock that is moved on. Each line has the time at
+    which it was handed over, and the next one of its kind says how many there would have been before it."""
+    masters = trial.scripts(*[silent] * 16)
+    spoils, node = Spoils(trial.room), trial.node(masters, poll="20ms", wait="20ms")
+    node.environment = spoils.environment
+    reading, writing = full_pipe()
+    node.run(stderr=writing)
+    os.close(writing)
+
+    def goes_round():
+        polls = len(masters[0].polls)
+        eventually(lambda: len(masters[0].polls) > polls + 2, pause_s=0.005)
+
+    goes_round()
+    for _ in range(WINDOWS - 1):
+        spoils.turn(jump_ns=11 * SECOND)
+        goes_round()
+    # Before them come the lines of the descriptors and of the start.
+    lost = 2 + WINDOWS * LINES_OF_A_WINDOW - 1 - LINES_THAT_WAIT
+    # Where the host is busy a status may be left out, too.
+    eventually(lambda: status_of(node)["left_out"] >= lost, 3)
+    trial.between("status left_out", lost, status_of(node)["left_out"], lost + 100)
+    drained, came = time.time_ns(), b""
+
+    def take(number, more=0):
+        """Reads until more than so many lines have come, and more than so many of source 0; all lines, and these."""
+        nonlocal came
+        end = time.monotonic() + 8
+        while True:
+            lines = [fields for fields in map(fields_of, came.lstrip(b"\0").decode().splitlines(keepends=True)) if fields]
+            ours = [line for line in lines if line["event"] == "source_silent" and line["source"] == "0"]
+            if len(lines) > number and len(ours) > more or time.monotonic() > end:
+                return lines, ours
+            if select.select([reading], [], [], 0.1)[0]:
+                came += os.read(reading, 65536)
+
+    lines, ours = take(LINES_THAT_WAIT)
+    later = [line for line in lines[:1 + LINES_THAT_WAIT] if line["time"] > drained]
+    trial.equal("log source_silent", (len(lines) > LINES_THAT_WAIT, later), (True, []))
+    low = len(masters[0].polls)
+    spoils.turn(jump_ns=11 * SECOND)
+    _, ours = take(LINES_THAT_WAIT, len(ours))
+    told = sum(1 + int(line.get("left_out", 0)) for line in ours)
+    trial.between("log source_silent", low - 2, told, len(masters[0].polls))
+    os.close(reading)
 
 
 @suite.case()
@@ -218,15 +340,33 @@ def calls_that_fail(trial):
         trial.logs(node, "socket_renewed", number=1501, pause_ns=SECOND // 10)
     with spoils.spoiled("clock"):
         trial.logs(node, "clock_back")
+    first = node.resources()[1]
     rounds = status_of(node)["rounds"]
     trial.check("status rounds", eventually(lambda: status_of(node)["rounds"] > rounds + 1), "no rounds once the clock is right again")
+    masters = trial.scripts(late(0.05))
+    spoils, node = Spoils(node.folder), trial.node(masters, "B", poll="3s", wait="5s")
+    node.environment = spoils.environment
+    with spoils.spoiled("receive"):
+        node.run()
+        # The socket is made anew a tenth of a second later, and then each time twice as long behind the time before, whatever `poll` is.
+        trial.logs(node, "socket_renewed", number=1501, pause_ns=SECOND // 10)
+        time.sleep(1)
+        trial.between("log socket_renewed", 3, len(masters[0].polls), 6)
+        spoils.turn(jump_ns=11 * SECOND)
+        lines = eventually(lambda: len(lines := node.said("socket_renewed")) > 1 and lines, 8) or [{}]
+        wanted = min(SECOND // 10 << 1 + int(lines[-1].get("left_out", 0)), 5 * SECOND)
+        trial.equal("log socket_renewed", int(lines[-1].get("pause_ns", 0)), wanted)
+    trial.logs(node, "first_publication", 12)
+    trial.between("status round_trip", 0, eventually(lambda: status_of(node)["round_trip"][0]), SECOND)
+    trial.equal("setting listen", places_of(node), [HERE])
+    trial.equal("descriptors behind renewals", eventually(lambda: node.resources()[1] == first) and first, first)
 
 
 @suite.case()
 def calls_that_last(trial):
-    """A rename of the status lasts for a second, and then sending a poll lasts until it is logged: a second more than `wait`."""
+    """A rename of the status and of the evidence lasts for a second, and then sending a poll lasts until it is logged: a second more than `wait`."""
     masters = trial.scripts(*[honest] * 3)
-    node, spoils = trial.spoilable(masters, poll="50ms", wait="3s")
+    node, spoils = trial.spoilable(masters, poll="50ms", wait="3s", evidence=f"{trial.room}/evidence")
     trial.numbers(node, left_out=0)
     with spoils.spoiled("rename"):
         time.sleep(0.1)
@@ -234,7 +374,7 @@ def calls_that_last(trial):
         time.sleep(1)
         made = len(masters[0].polls) - begun
     status = eventually(lambda: (seen := status_of(node))["left_out"] > 0 and seen) or status_of(node)
-    trial.between("status left_out", max(1, made - 3), status["left_out"], made + 12)
+    trial.between("status left_out", max(1, 2 * made - 6), status["left_out"], 2 * made + 24)
     with spoils.spoiled("sending"):
         line = trial.logs(node, "publication_slow", 12)
     trial.between("log publication_slow", 4 * SECOND, int(line.get("lasted_ns", 0)), 12 * SECOND)

@@ -12,7 +12,7 @@ from harness.processes import free_port, truetime
 from harness.program import read_text, run, write
 from harness.trouble import Spoils, disrupt, honest, page, silent
 from suites.wiring import suite
-from suites.wiring_checks import TIMES, eventually, spans
+from suites.wiring_checks import TIMES, eventually, published, spans
 
 ROUNDS = "truetime_rounds_total"
 PLAIN = "text/plain; charset=utf-8"
@@ -76,9 +76,11 @@ def comes_to(trial, port, wanted, seconds=6.0):
 @suite.case()
 def pages(trial):
     """They are what the files are, and each has the fields that say how long it is."""
-    node, port = with_pages(trial, trial.scripts(honest), evidence="evidence", poll="300ms")
+    # Paths without a folder are in that in which it was started.
+    node, port = with_pages(trial, trial.scripts(honest), evidence="evidence", shared="shared", poll="300ms")
     node.run(cwd=node.folder)
     node.wait_until_ready()
+    trial.check("setting shared", published(node), "it is not in the folder in which the machine was started")
     for path, name, kind in (("/metrics", "status", METRICS), ("/evidence", "evidence", PLAIN)):
         seen = {}
 
@@ -219,18 +221,24 @@ def client_that_makes_room(trial):
 
 @suite.case()
 def pages_without_descriptors(trial):
-    """A client that comes where no descriptor is left is served once there is one, though nobody comes behind it."""
+    """A client that comes where no descriptor is left is served once there is one, though nobody comes behind it: a tenth of a second later. The best
+    of three counts: the host may be busy."""
     node, port = with_pages(trial, trial.scripts(honest), poll="50ms")
     node.run()
     comes_to(trial, port, None)
-    pid = node.running.pid
+    pid, took = node.running.pid, []
     limits = resource.prlimit(pid, resource.RLIMIT_NOFILE)
-    resource.prlimit(pid, resource.RLIMIT_NOFILE, (len(os.listdir(f"/proc/{pid}/fd")), limits[1]))
-    with socket.create_connection(("127.0.0.1", port), 5) as door:
-        door.sendall(b"GET /health HTTP/1.1\r\nHost: here\r\n\r\n")
-        time.sleep(0.5)
-        resource.prlimit(pid, resource.RLIMIT_NOFILE, limits)
-        trial.equal("setting http", reasons_of(answer_of(door)), None)
+    for _ in range(3):
+        time.sleep(0.1)
+        resource.prlimit(pid, resource.RLIMIT_NOFILE, (len(os.listdir(f"/proc/{pid}/fd")), limits[1]))
+        with socket.create_connection(("127.0.0.1", port), 5) as door:
+            door.sendall(b"GET /health HTTP/1.1\r\nHost: here\r\n\r\n")
+            time.sleep(0.5)
+            resource.prlimit(pid, resource.RLIMIT_NOFILE, limits)
+            began = time.monotonic()
+            trial.equal("setting http", reasons_of(answer_of(door)), None)
+            took.append(time.monotonic() - began)
+    trial.between("setting http", 0, min(took), 0.3)
 
 
 def has_ended(door):

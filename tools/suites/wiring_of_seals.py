@@ -6,6 +6,7 @@ import socket
 import subprocess
 import time
 
+from harness.processes import SECOND
 from harness.program import run, write
 from harness.trouble import Network, Spoils, honest, silent
 from harness.wire import REQUEST, sealed
@@ -183,6 +184,41 @@ def names_of_masters(trial):
         trial.check("log ended", False, fault)
     trial.equal("log source_resolved", [line["source"] for line in node.said("source_resolved")], ["0"])
     trial.has_form("setting log", node, "json")
+
+
+@suite.case()
+def two_addresses_of_a_name(trial):
+    """Of a name with two addresses the first is asked until it has been silent for as long as four rounds last, and then the next; one that answers
+    is asked on, and once it falls silent the first again."""
+    local = scripted(trial, {7: FIRST}, honest)
+    port = int(local.address.rpartition(":")[2])
+    spoils = Spoils(trial.room)
+    spoils.tell("addresses", "127.0.0.2 127.0.0.1")
+    first, last = ({"address": master.address} for master in trial.scripts(honest, honest))
+    node = trial.node([first, table(local, 7, "localhost"), last], keys=keys_at(trial), poll="400ms", wait="100ms")
+    node.environment = spoils.environment
+    with socket.socket(socket.AF_INET, socket.SOCK_DGRAM) as door:
+        door.bind(("127.0.0.2", port))
+        door.setblocking(False)
+
+        def asked():
+            """How many packets have come at the other address since the last call."""
+            number = 0
+            with contextlib.suppress(BlockingIOError):
+                while door.recv(100):
+                    number += 1
+            return number
+
+        node.run()
+        trial.logs(node, "source_resolved", source=1, address=f"127.0.0.2:{port}")
+        trial.check("setting master", eventually(lambda: local.times), "the next address is not asked")
+        began = int(trial.logs(node, "started").get("time", 0))
+        trial.between("for how long a silent address is asked", 1.9, (local.times[0] - began) / SECOND if local.times else 0, 5)
+        trial.check("setting master", asked() > 2, "the first address is not asked")
+        time.sleep(3.2)
+        trial.equal("packets to an address behind that of a master that answers", asked(), 0)
+        local.acts = [silent]
+        trial.check("setting master", eventually(asked, 8), "the first address is not asked again once the other one is silent")
 
 
 @suite.case()

@@ -9,13 +9,16 @@ import sys
 import time
 from concurrent.futures import ThreadPoolExecutor
 
-from harness.processes import SECOND, truetime
+from harness.metrics import faults_in
+from harness.processes import SECOND, free_port, truetime
 from harness.program import read_text, write
 from harness.trouble import disrupt, honest, late, page, reset, silent
 from harness.users import latest_of
+from suites.breaks_world import claim_of, is_valid
 from suites.wiring import suite
 from suites.wiring_checks import (
     BUCKETS, REASONS, UNREACHED, eventually, forges, lies, look_at_form, names_of, other, published, runs, spans, status_of)
+from suites.wiring_of_pages import get
 
 # How many sessions a worker has at most.
 MOST_SESSIONS = 320
@@ -169,6 +172,9 @@ def ages(trial):
     is_right = eventually(look)
     for name in ("age", "newest", "needed"):
         trial.check(f"status {name}", is_right, f"the ages of sources, the newest and the needed, and that of the second are {seen[-3:]}")
+    # Publications go on, and are fresh for three periods behind the last answer of the second source.
+    last, shown = masters[1].times[3] + time.monotonic_ns() - time.time_ns(), published(node)
+    trial.between("shared valid_until_ns", SECOND * 55 // 100, shown.valid_until_ns - last, SECOND * 11 // 10)
     before = status_of(node)
     time.sleep(1)
     after = status_of(node)
@@ -375,8 +381,9 @@ def lines_in_pieces(trial):
 @suite.case()
 def replies_in_pieces(trial):
     """Where a connection takes seven bytes at a time, all of each reply comes, and in order, of clients that are alone on their worker and of
-    others. Each line is counted once."""
-    node, spoils = trial.spoilable(trial.scripts(honest), workers=2)
+    others. Each line is counted once. So it is with a page."""
+    port = free_port(socket.SOCK_STREAM)
+    node, spoils = trial.spoilable(trial.scripts(honest), workers=2, http=f"127.0.0.1:{port}")
     first = trial.numbers(node, sessions=1)
     spoils.tell("few")
     pair, before = ("now\nnonsense\n", ["now", "refused"]), time.time_ns() - SECOND
@@ -394,6 +401,10 @@ def replies_in_pieces(trial):
                 said = [line.split()[0].replace("committed", "waiting") for line in came]
                 trial.check("status lines", is_right and said == words, f"the replies are {came}")
         trial.numbers(node, lines=first["lines"] + 84, lines_refused=first["lines_refused"] + 36, sessions_open=4)
+    for path in ("/metrics", "/nothing", "/metrics"):
+        answer = get(port, path)
+        trial.equal("setting http", (path, int(answer.fields["Content-Length"])), (path, len(answer.text)))
+        trial.equal("setting http", faults_in(answer.text) if path == "/metrics" else [], [])
 
 
 @suite.case()
@@ -550,24 +561,110 @@ def commits(trial):
 
 
 @suite.case()
+def nothing_is_kept(trial):
+    """A machine has as many descriptors and threads as before, and no more memory, once sessions have ended in each way, pages were asked for in whole
+    and in part, its shared file was removed, and its socket for polls failed. No thread works where little is to be done: also of a session that is
+    alone again, for which its worker may wait."""
+    port, path = free_port(socket.SOCK_STREAM), os.path.join(trial.room, "vmclock0")
+    write(path, page(1))
+    node, spoils = trial.spoilable(trial.scripts(honest), http=f"127.0.0.1:{port}", evidence=f"{trial.room}/evidence", on_break="warn", vmclock=path,
+                                   poll="200ms", wait="50ms", floor_ahead="10s")
+    lines = b"now\n", b"commit 1 0\nnow\n", b"no", b"GET / HTTP/1.1\r\n\r\n", b"commit 1 %d\n" % (time.time_ns() + 9 * SECOND)
+
+    def live():
+        with contextlib.ExitStack() as doors:
+            for number in range(60):
+                for address in (node.address, node.path("socket"), ("127.0.0.1", port)):
+                    door = doors.enter_context(socket.socket(socket.AF_UNIX if isinstance(address, str) else socket.AF_INET))
+                    door.settimeout(5)
+                    with contextlib.suppress(OSError):
+                        door.connect(address)
+                        door.sendall(lines[number % 5])
+                        if number % 4 == 1:
+                            door.shutdown(socket.SHUT_WR)
+                    if number % 4 == 2:
+                        reset(door)
+            # One that takes no reply, and leaves once nothing more is taken of it.
+            door = doors.enter_context(socket.socket(socket.AF_UNIX))
+            door.settimeout(0.3)
+            door.connect(node.path("socket"))
+            with contextlib.suppress(OSError):
+                while door.send(b"now\n" * 1000):
+                    pass
+            door.close()
+            for place in ("/metrics", "/evidence", "/health", "/nothing") * 5:
+                get(port, place)
+            with contextlib.suppress(OSError):
+                os.remove(node.path("shared"))
+            with spoils.spoiled("receive"):
+                time.sleep(0.4)
+        trial.numbers(node, sessions_open=0, busy=0, commits_waiting=0, waiting=0, sharing=1)
+        with truetime.Session(node.address, 5) as session:
+            session.now()
+        time.sleep(2.2)  # a page has two seconds in all
+
+    live()
+    before = node.resources()
+    live()
+    said, is_more = node.keeps_more(before, node.resources())
+    trial.check("resources", not is_more, said)
+    with contextlib.ExitStack() as doors:
+        kept = [doors.enter_context(truetime.Session(address, 5)) for address in (node.address, node.path("socket"))]
+        with contextlib.ExitStack() as others:
+            for session in [others.enter_context(truetime.Session(address, 5)) for address in (node.address, node.path("socket")) * 4] + kept:
+                session.now()
+        eventually(lambda: status_of(node)["sessions_open"] == 2)
+        for session in kept:
+            session.now()
+        time.sleep(0.3)
+        began = spent_by_threads(node)
+        time.sleep(1.5)
+        most = max(nanoseconds - began.get(task, 0) for task, nanoseconds in spent_by_threads(node).items())
+    trial.between("processor time of a thread", 0, most, SECOND // 10)
+
+
+def spent_by_threads(node):
+    """The processor time of each of its threads."""
+    tasks = f"/proc/{node.running.pid}/task"
+    return {task: int(read_text(f"{tasks}/{task}/schedstat").split()[0]) for task in os.listdir(tasks)}
+
+
+@suite.case()
 def breaks(trial):
     """By `on_break = "warn"` each sign of a break is counted: two disruptions, a sleep, and a step of the one source."""
     path = os.path.join(trial.room, "vmclock0")
     write(path, page(1))
     masters = trial.scripts(honest)
-    node, spoils = trial.spoilable(masters, on_break="warn", vmclock=path, poll="100ms", wait="100ms")
+    evidence = os.path.join(trial.room, "evidence")
+    node, spoils = trial.spoilable(masters, on_break="warn", vmclock=path, poll="100ms", wait="100ms", evidence=evidence)
     trial.numbers(node, breaks=0, slept=0)
     for number, marker in enumerate((2, 3), 1):
         disrupt(path, marker)
         trial.numbers(node, breaks=number)
     trial.check("setting vmclock", trial.logs(node, "guest_disrupted"), "it is not read")
+    # It counts also while the counter can't be read.
+    os.remove(path)
+    rounds = status_of(node)["rounds"]
+    eventually(lambda: status_of(node)["rounds"] > rounds + 1)
+    trial.numbers(node, breaks=2)
+    write(f"{path}.new", page(9))
+    os.rename(f"{path}.new", path)
+    trial.numbers(node, breaks=3)
     spoils.tell("uptime", str(800_000_000))
-    status = trial.numbers(node, breaks=3)
+    status = trial.numbers(node, breaks=4)
     trial.between("status slept", SECOND * 77 // 100, status["slept"], SECOND * 80 // 100)
     trial.between("log host_slept", SECOND * 77 // 100, int(trial.logs(node, "host_slept").get("slept_ns", 0)), SECOND * 80 // 100)
+    before = claim_of(evidence)
     masters[0].acts = [lies(5 * SECOND)]
     line = trial.logs(node, "assumption_broken")
-    trial.numbers(node, breaks=4)
+    trial.numbers(node, breaks=5)
+    kept = [f"{evidence}.break-{number}" for number in (1, 2)]
+    is_valid_evidence = eventually(lambda: all(os.path.exists(name) and is_valid(trial.program, name) for name in kept))
+    trial.check("setting evidence", is_valid_evidence, "that of a break that is warned of is not there")
+    if is_valid_evidence:
+        # They are those of the last publication before it, and of the one that does not meet it.
+        earlier, later = map(claim_of, kept)
+        trial.check("setting evidence", before[0] <= earlier[0] <= later[0] - 4 * SECOND, f"{earlier} and {later} behind {before}")
     lower, upper, last_lower, last_upper = (int(line.get(f"{name}_ns", 0)) for name in ("lower", "upper", "last_lower", "last_upper"))
     trial.between("log assumption_broken", 4 * SECOND, lower - last_upper, 5 * SECOND)
     trial.between("log assumption_broken", 2_000_000, upper - lower, SECOND)

@@ -5,6 +5,7 @@ clock sees one that tools/spoil_calls.c moves on.
 """
 import contextlib
 import os
+import resource
 import socket
 import stat
 import subprocess
@@ -15,7 +16,7 @@ from harness.processes import SECOND, Process, free_port, truetime
 from harness.program import compile_c, read_text, write
 from harness.trouble import Answerer, Spoils, disrupt, full_pipe, honest, page, silent
 from suites.wiring import suite
-from suites.wiring_checks import TIMES as TIMES_OF_ALL, TIMES_OF_OTHERS, eventually, lies
+from suites.wiring_checks import HERE, TIMES as TIMES_OF_ALL, TIMES_OF_OTHERS, eventually, lies, places_of
 from suites.wiring_of_pages import get, with_pages
 from suites.wiring_of_masters import Spoiled
 from suites.wiring_of_seals import FIRST, keys_at, scripted, table
@@ -101,6 +102,41 @@ def waits_of_machines(trial):
 
 
 @suite.case()
+def waits_for_the_only_session(trial):
+    """A worker whose only session need not share it waits for its bytes alone, and for no descriptors between two lines: also again once more
+    sessions than it may have were open, and two were turned away."""
+    before = resource.getrlimit(resource.RLIMIT_NOFILE)
+    resource.setrlimit(resource.RLIMIT_NOFILE, (150, before[1]))
+    try:
+        node, notes = trial.node(trial.scripts(honest), workers=2, poll="200ms", floor_ahead="10s"), Notes(trial, "machine")
+        node.environment = notes.environment
+        node.run()
+        node.wait_until_ready()
+    finally:
+        resource.setrlimit(resource.RLIMIT_NOFILE, before)
+    room = int(trial.logs(node, "descriptors", limit=150)["sessions"]) // 2
+    for number, address in enumerate((node.address, node.path("socket")), 1):
+        with contextlib.ExitStack() as stack:
+            for _ in range(room + 2):
+                door = stack.enter_context(socket.socket(socket.AF_UNIX if isinstance(address, str) else socket.AF_INET))
+                door.settimeout(5)
+                door.connect(address)
+                with contextlib.suppress(OSError):
+                    door.sendall(b"commit 1 %d\n" % (time.time_ns() + 9 * SECOND))
+                    door.recv(64)
+        trial.numbers(node, unserved=2 * number, sessions_open=0)
+        with truetime.Session(address, 5) as session:
+            for _ in range(3):
+                session.now()
+            time.sleep(0.3)
+            waits = sum(words[0] == "poll" for words in notes.calls())
+            for _ in range(100):
+                session.now()
+            waits = sum(words[0] == "poll" for words in notes.calls()) - waits
+        trial.between(f"waits for descriptors at {address} while 100 lines come", 0, waits, 50)
+
+
+@suite.case()
 def waits_at_the_end(trial):
     """Where standard error takes no line, a machine looks for a fifth of a second whether it does, and then ends all the same."""
     node, notes = trial.node(trial.scripts(honest)), Notes(trial, "machine")
@@ -157,12 +193,12 @@ def ends_once_its_last_is_shared(trial):
 
 @suite.case()
 def ends_once_all_is_written(trial):
-    """A machine whose lines and status are written waits for nothing more at its end, in one of five lives at least: the host may be busy."""
-    node, took = trial.node(trial.scripts(honest)), []
+    """A machine whose lines, status and evidence are written waits for nothing more at its end, in one of five lives at least: the host may be busy."""
+    node, took = trial.node(trial.scripts(honest), evidence=f"{trial.room}/evidence"), []
     for _ in range(5):
         node.run()
         node.wait_until_ready()
-        eventually(lambda: os.path.exists(node.path("status")))
+        eventually(lambda: os.path.exists(node.path("status")) and os.path.exists(f"{trial.room}/evidence"))
         node.running.stdin.close()
         node.running.wait(20)
         took.append(time.time_ns() - int(node.said("ended")[-1]["time"]))
@@ -326,9 +362,9 @@ def longest_session(trial):
 
 @suite.case()
 def slow_publications(trial):
-    """One that lasts a second longer than `wait` is told of within a second more, and one that is made at once never is, however long the pause
-    behind it."""
-    quick = trial.running_node(trial.scripts(honest), "E", poll="3s", wait="50ms")
+    """One that lasts a second longer than `wait` is told of within a second more, and one that is made within `wait` never is, however long the pauses
+    before and behind it."""
+    quick = trial.running_node(trial.scripts(honest, honest, silent), "E", poll="3s", wait="900ms")
     spoiled = [trial.spoilable(trial.scripts(honest), name, wait="50ms", poll="50ms") for name in "BCD"]
     with contextlib.ExitStack() as stack:
         for _, spoils in spoiled:
@@ -337,20 +373,11 @@ def slow_publications(trial):
             lasted = int(trial.logs(node, "publication_slow").get("lasted_ns", 0))
             least = TIMES["slow"] + 50 * MILLISECOND
             trial.between("time slow", least, lasted, least + TIMES["records"] + SECOND)
-    eventually(lambda: quick.status()["truetime_rounds_total"] >= 2)
+    trial.check("time slow", eventually(lambda: quick.status()["truetime_rounds_total"] >= 3, 12), "its rounds do not go on")
     trial.equal("time slow", quick.said("publication_slow"), [])
 
 
 # Addresses and files.
-
-def places_of(process):
-    """At which addresses of this host the sockets of a process are, as the kernel writes them."""
-    folder = f"/proc/{process.running.pid}/fd"
-    inodes = {os.readlink(os.path.join(folder, name)) for name in os.listdir(folder)}
-    rows = [line.split() for kind in ("tcp", "tcp6", "udp", "udp6") if os.path.exists(f"/proc/net/{kind}")
-            for line in read_text(f"/proc/net/{kind}").splitlines()[1:]]
-    return sorted({row[1].partition(":")[0] for row in rows if f"socket:[{row[9]}]" in inodes})
-
 
 @suite.case()
 def addresses(trial):
@@ -358,11 +385,10 @@ def addresses(trial):
     node, _ = with_pages(trial, trial.scripts(honest), machine=1)
     node.run()
     node.wait_until_ready()
-    here = socket.inet_aton("127.0.0.1")[::-1].hex().upper()
-    trial.equal("setting listen", places_of(node), [here])
+    trial.equal("setting listen", places_of(node), [HERE])
     master = trial.process("master", "--source", "0", "--listen", f"127.0.0.1:{free_port(socket.SOCK_DGRAM)}", "--uncertainty", "5")
     trial.logs(master, "master_started")
-    trial.equal("option listen", places_of(master), [here])
+    trial.equal("option listen", places_of(master), [HERE])
 
 
 @suite.case()
