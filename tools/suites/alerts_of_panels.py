@@ -125,12 +125,14 @@ def panels(trial):
 
 
 SOURCE = {"type": "prometheus", "uid": "${datasource}"}
-ALL = {"refresh": 2, "sort": 1, "includeAll": True, "multi": True, "allValue": ".*", "current": {"text": ["All"], "value": ["$__all"]}, "options": []}
+ALL = {"refresh": 2, "sort": 1, "includeAll": True, "multi": True, "allValue": ".*", "options": [],
+       "current": {"text": ["All"], "value": ["$__all"]}}
 
 
 def choice(name, label, query):
     """A choice of a label's values, which begins with all of them."""
-    return {"name": name, "label": label, "type": "query", "datasource": SOURCE, "query": {"query": query, "refId": name}, "definition": query, **ALL}
+    return {"name": name, "label": label, "type": "query", "datasource": SOURCE, "definition": query, **ALL,
+            "query": {"query": query, "refId": name}}
 
 
 # What stands around the panels: what is looked at by default and how often, and what can be chosen.
@@ -148,7 +150,7 @@ RED_FROM_ONE = {"mode": "absolute", "steps": [{"color": "green", "value": None},
 
 @suite.case()
 def frame(trial):
-    """What stands around the panels, and what each of them has beside its lines: its place among three in a row, its legend, and its colours."""
+    """What stands around the panels, and what each of them has beside its lines: its place in a row, its legend, and its colours."""
     dashboard = json.loads(read_text(DASHBOARD))
     panels_of_all = dashboard.pop("panels")
     trial.check("description", dashboard.pop("description", ""), "there is none")
@@ -161,6 +163,7 @@ def frame(trial):
         if not is_row:
             trial.equal(f"options of {title}", panel["options"], LEGEND if panel["type"] == "timeseries" else {})
             rest = {key: value for key, value in panel["fieldConfig"]["defaults"].items() if key != "unit"}
-            trial.equal(f"fields of {title}", (rest, panel["fieldConfig"]["overrides"]), ({"thresholds": RED_FROM_ONE} if title == "Alerts that fire" else {}, []))
+            wanted = {"thresholds": RED_FROM_ONE} if title == "Alerts that fire" else {}
+            trial.equal(f"fields of {title}", (rest, panel["fieldConfig"]["overrides"]), (wanted, []))
         else:
             trial.equal(f"row {title}", (panel["collapsed"], panel["panels"]), (False, []))

@@ -16,24 +16,26 @@ from suites.clients_of_openings import Answering, Listening, files_in
 # What each language says of each kind of error. C has the numbers in its session, and one sentence for what took a lease along or not.
 PENDING, LOST = "commit 1, whose timestamp is {}", "commit 1, whose timestamp is {}, was pending: begin it again, or give it up"
 PYTHON = {
-    "ended": "the service ended the session", "none": "not a reply to 'now': 'hello'", "late": "no reply in time", "held": "the commit is not released in time",
-    "pending": PENDING, "lost": LOST, "lease": "the lease has to be set again", "803": "refused 803: the clock gave no reading",
-    "65535": "refused 65535: see docs/FORMATS.md", "not begun": "no commit was begun", "bad line": "not a line: 'x", "closed": "the session is closed",
+    "ended": "the service ended the session", "none": "not a reply to 'now': 'hello'", "late": "no reply in time",
+    "held": "the commit is not released in time", "pending": PENDING, "lost": LOST, "lease": "the lease has to be set again",
+    "803": "refused 803: the clock gave no reading", "65535": "refused 65535: see docs/FORMATS.md", "not begun": "no commit was begun",
+    "bad line": "not a line: 'x", "closed": "the session is closed",
 }
 WORDS = {
     "Python": PYTHON, "Python asyncio": PYTHON,
     "C": {
         "ended": "the service ended the session; if it had a lease, it has to be set again", "none": "what came is no reply",
         "late": "no reply or no release came in time", "held": "no reply or no release came in time",
-        "pending": "the last commit is not known as released: call tt_session_wait", "lost": "", "lease": "", "803": "the clock gave no reading",
-        "65535": "see docs/FORMATS.md", "not begun": "Invalid argument", "bad line": "Invalid argument", "closed": "the session is not open",
+        "pending": "the last commit is not known as released: call tt_session_wait", "lost": "", "lease": "",
+        "803": "the clock gave no reading", "65535": "see docs/FORMATS.md", "not begun": "Invalid argument", "bad line": "Invalid argument",
+        "closed": "the session is not open",
     },
     "Rust": {**PYTHON, "ended": "the connection failed: unexpected end of file", "none": "the connection failed: invalid data",
              "late": "the connection failed: timed out", "bad line": "the line is too long or has a line feed", "closed": ""},
     "Java": {**PYTHON, "none": "not a reply to now", "bad line": "not a line: x", "closed": "ClosedChannelException"},
     "Go": {**PYTHON, "ended": "truetime: the connection failed: unexpected EOF", "none": 'not a reply to "now": "hello"',
-           "late": "truetime: the connection failed: i/o timeout", "held": "context deadline exceeded", "803": "truetime: refused 803: the clock gave no reading",
-           "65535": "truetime: refused 65535: see docs/FORMATS.md", "not begun": "truetime: no commit was begun",
+           "late": "truetime: the connection failed: i/o timeout", "held": "context deadline exceeded",
+           "803": "truetime: refused 803: the clock gave no reading", "65535": "truetime: refused 65535: see docs/FORMATS.md", "not begun": "truetime: no commit was begun",
            "bad line": "truetime: the line is too long", "closed": "use of closed network connection"},
 }
 # What is said only of what was lost.
@@ -169,4 +171,5 @@ def blocks_of_python(trial):
         environment = {**os.environ, "PYTHONPATH": in_top("clients/python"), "PYTHONDONTWRITEBYTECODE": "1"}
         ran = run([sys.executable, "-c", BLOCKS, good, str(service.server_address[1])], env=environment)
     # A mapping keeps a descriptor of its own, as one that is not mapped and a session have one.
-    trial.equal("blocks", (ran.said.splitlines(), ran.error), (["3 1 0 0", "ConnectionError Refused Refused", "1 0 ConnectionError"], ""))
+    wanted = ["3 1 0 0", "ConnectionError Refused Refused", "1 0 ConnectionError"]
+    trial.equal("blocks", (ran.said.splitlines(), ran.error), (wanted, ""))

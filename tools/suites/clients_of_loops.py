@@ -239,6 +239,56 @@ def try_slow_connection(trial, name, words):
     trial.between(f"{name}: in seconds", 1.5, took, 2.2)
 
 
+def said_behind_slow_connection(trial, name, words):
+    """A session that has ended, whose next connection takes a second, and a reply there that takes another one: what the calls give."""
+    with socket.socket() as listener, Reader(words, "session") as probe:
+        listener.bind(("127.0.0.1", 0))
+        listener.listen(0)
+        wants(trial, name, probe.say, f"open tcp {listener.getsockname()[1]} 1800", "open")
+        listener.accept()[0].close()
+        listener.settimeout(10)
+        with contextlib.ExitStack() as others:  # who take all places for a while
+            for _ in range(3):
+                one = others.enter_context(socket.socket())
+                one.setblocking(False)
+                one.connect_ex(listener.getsockname())
+            probe.probe.stdin.write("now\n")
+            time.sleep(0.3)
+        came = b""
+        while came != b"now\n":  # the others have left
+            one, _ = listener.accept()
+            one.settimeout(10)
+            with contextlib.suppress(OSError):
+                came = one.recv(100)
+        said = []
+        for pause_s, reply in (0, b"now 5 15\n"), (1.2, b"now 7 9\n"):
+            time.sleep(pause_s)
+            with one.dup() as door, contextlib.suppress(OSError):  # it may have given up
+                door.sendall(reply)
+            said.append(probe.probe.stdout.readline().strip())
+            probe.probe.stdin.write("close\n" if pause_s else "now\n")
+        one.close()
+        return said + [probe.probe.stdout.readline().strip()]
+
+
+def try_behind_slow_connection(trial, name, words):
+    """The reply has the whole time-out, in one of three tries on a busy host."""
+    for _ in range(3):
+        said = said_behind_slow_connection(trial, name, words)
+        if said == ["5 15", "7 9", "closed"]:
+            return
+    trial.equal(f"{name}: a slow connection, and a slow reply behind it", said, ["5 15", "7 9", "closed"])
+
+
+@suite.case()
+def whole_time_out_behind_a_slow_connection(trial):
+    """What connecting anew takes off the time-out of one call it takes off no later one."""
+    probes = list(session_probes(trial.shared))
+    with ThreadPoolExecutor() as pool:
+        list(pool.map(lambda probe: try_behind_slow_connection(trial, *probe), probes))
+    trial.note(f"{len(probes)} kinds of sessions; {len(trial.result.wrong)} wrong")
+
+
 @suite.case()
 def time_of_connecting_anew(trial):
     """Connecting anew makes no call longer than its time-out."""

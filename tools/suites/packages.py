@@ -160,7 +160,8 @@ def files(trial):
     for file, source in ((file, source) for of in FILES.values() for file, source in of.items() if not NOT_BY_INSTALL.match(file)):
         made = file.removesuffix(".gz").replace(UNITS, f"usr/{UNITS}")
         if os.path.exists(f"{by_hand}/{made}"):
-            meant = read(source) if source else read(trial.program) if made == "usr/bin/ttd" else gzip.decompress(read(f"{trial.room}/truetime/{file}"))
+            of_package = f"{trial.room}/truetime/{file}"
+            meant = read(source) if source else read(trial.program) if made == "usr/bin/ttd" else gzip.decompress(read(of_package))
             trial.check(f"{made} of packaging/install", read(f"{by_hand}/{made}") == meant, f"it is not {source or 'that of the package'}")
     try_module(trial, f"{trial.room}/python3-truetime/{MODULE}-{VERSION}.dist-info")
 

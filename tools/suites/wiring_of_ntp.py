@@ -280,7 +280,8 @@ def servers_on_other_hosts(trial):
     for _ in range(2):
         asked = len(server.requests)
         sleep()
-        trial.check("option ntp", eventually(lambda asked=asked: len(server.requests) > asked, SOON_S), "it is not asked anew after a sleep, without a poll")
+        is_asked = eventually(lambda asked=asked: len(server.requests) > asked, SOON_S)
+        trial.check("option ntp", is_asked, "it is not asked anew after a sleep, without a poll")
     trial.logs(over.process, "host_slept", SOON_S)
     seen = []
 

@@ -482,7 +482,8 @@ def found_beside_machine(trial):
     trial.equal("--check", (ran.status, contents_of(other.folder)), (0, before))
     other = trial.node(["127.0.0.1:5701"], "D", evidence="nowhere/evidence")
     ran = trial.command("serve", "--check", other.path("node.toml"), cwd=other.folder)
-    trial.equal("--check", [line for line in ran.said.splitlines() if line.startswith("warning")], ["warning evidence nowhere: there is no such folder"])
+    warned = [line for line in ran.said.splitlines() if line.startswith("warning")]
+    trial.equal("--check", warned, ["warning evidence nowhere: there is no such folder"])
     in_root = trial.node(["127.0.0.1:5701"], "C", status="/status")
     warned = [line for line in trial.command("serve", "--check", in_root.path("node.toml")).said.splitlines() if line.startswith("warning")]
     trial.equal("--check", warned, [] if os.access("/", os.W_OK) else ["warning status /: this user may not write it"])
@@ -498,9 +499,10 @@ def found_by_another_user(trial):
     for path in (trial.room, node.folder):
         os.chmod(path, 0o755)
     shutil.copy(trial.program, os.path.join(trial.room, "ttd"))
-    ran = run([os.path.join(trial.room, "ttd"), "serve", "--check", node.path("node.toml")], cwd=node.folder, user=NOBODY, group=NOBODY, extra_groups=[])
+    words = [os.path.join(trial.room, "ttd"), "serve", "--check", node.path("node.toml")]
+    ran = run(words, cwd=node.folder, user=NOBODY, group=NOBODY, extra_groups=[])
     warned = [line for line in ran.said.splitlines() if line.startswith("warning")]
-    trial.equal("--check", warned, [f"warning socket {node.folder}: this user may not write it", "warning status of-root: this user may not write it"])
+    trial.equal("--check", warned, [f"warning {what}: this user may not write it" for what in (f"socket {node.folder}", "status of-root")])
 
 
 # The keys that have to be there, each with a value as a file writes it.

@@ -199,7 +199,8 @@ def top_with_settings(trial):
     trial.check("top", ran.error.startswith("ttd: evidence: the text is not the evidence of a publication\n"), ran.error)
     plain = trial.node(trial.scripts(*[silent] * 5), "C", status=other.path("status"), machine=5)
     ran = run([trial.program, "top", plain.path("node.toml"), "--once"], env=PLAIN)
-    trial.equal("top", (ran.status, ran.error), (0, f"ttd: {plain.path('node.toml')}: evidence: there are no bars without the path of a file here\n"))
+    line = f"ttd: {plain.path('node.toml')}: evidence: there are no bars without the path of a file here\n"
+    trial.equal("top", (ran.status, ran.error), (0, line))
 
 
 @suite.case()
@@ -240,14 +241,15 @@ def top_refused(trial):
     masters = trial.scripts(honest)
     without, other, gone = (trial.node(masters, name, status=status) for name, status in (("A", None), ("B", "bad.status"), ("C", "no.status")))
     long = trial.node(masters, "D", status="long.status")
-    for name, text in (("bad.status", b"nothing\n"), ("bad.toml", b"machine = 9\n"), ("long.status", b"#" * 1_048_577), ("long.toml", b"#" * 1_048_577),
-                       ("latin.toml", b"# \xe9\n")):
+    for name, text in (("bad.status", b"nothing\n"), ("bad.toml", b"machine = 9\n"), ("latin.toml", b"# \xe9\n"),
+                       ("long.status", b"#" * 1_048_577), ("long.toml", b"#" * 1_048_577)):
         write(os.path.join(trial.room, name), text)
     for place, number, status, says in (
             (without.path("node.toml"), 1803, 2, "status"), (other.path("node.toml"), 2601, 2, "ttd: bad.status: the text is not the status"),
             (gone.path("node.toml"), 1604, 4, "ttd: no.status: the status can't be read: No such file"), ("bad.toml", 1804, 2, "machine"), ("nowhere", 1604, 4, "nowhere"),
             (long.path("node.toml"), 1603, 2, "ttd: long.status: it is longer than 1048576 bytes\n"),
-            ("long.toml", 1603, 2, "ttd: long.toml: it is longer than 1048576 bytes\n"), ("latin.toml", 1603, 2, "ttd: latin.toml: it is not UTF-8\n"),
+            ("long.toml", 1603, 2, "ttd: long.toml: it is longer than 1048576 bytes\n"),
+            ("latin.toml", 1603, 2, "ttd: latin.toml: it is not UTF-8\n"),
             (f"127.0.0.1:{nobody}", 1501, 4, f"127.0.0.1:{nobody}: Connection refused")):
         ran = run([trial.program, "top", place, "--once"], env=PLAIN, cwd=trial.room)
         trial.equal("top", (place, *ran.answer), (place, f"refused {number}\n", status))
