@@ -9,7 +9,7 @@ import threading
 import time
 
 from harness.processes import Fault
-from harness.program import read_text, run, write
+from harness.program import read_text, write
 from suites.packages import TRIES, UNITS, USER, Host, host_of, running, suite, words_of
 from suites.wiring_checks import eventually
 

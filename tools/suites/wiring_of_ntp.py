@@ -4,7 +4,6 @@ import contextlib
 import itertools
 import os
 import socket
-import subprocess
 import threading
 import time
 
