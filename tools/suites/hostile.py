@@ -1,16 +1,20 @@
 """Gives the built program bytes and words that are cut, changed, nested or long.
 
-Each has to be answered, with status 0 or 3, or refused by a number, with status 2 and one line `refused N`, within 5 seconds.
+Each has to be answered, with status 0 or 3, or refused by a number, with status 2 and one line `refused N`, within 15 seconds of
+processor time.
 """
 import functools
 import os
 import re
-import time
+import resource
+import subprocess
 
-from harness.program import read, run
+from harness.program import read
 from harness.suite import Suite
 
 suite = Suite(__name__, at_once=os.cpu_count() or 1)
+# How much processor time an answer may take, and when a command hangs, in seconds.
+MOST_S, HANGS_S = 15, 120
 REFUSAL = re.compile(rb"refused [0-9]+\n\Z")
 AGE = ["age", "--sent", "500", "--got", "900", "--clock", "30000000900"]
 NUMBERS = [0, 10, 34, 48, 57, 93, 125, 255]
@@ -41,14 +45,23 @@ def large(script):
     yield script * 300
 
 
+def answer_of(words, given):
+    """What a command prints, and its status; a signal ends it where it takes longer than it may."""
+    with subprocess.Popen(words, stdin=subprocess.PIPE, stdout=subprocess.PIPE, stderr=subprocess.DEVNULL) as started:
+        resource.prlimit(started.pid, resource.RLIMIT_CPU, (MOST_S, MOST_S))
+        try:
+            out, _ = started.communicate(given, HANGS_S)
+        except subprocess.TimeoutExpired:
+            started.kill()
+            out, _ = started.communicate()
+    return out, started.returncode
+
+
 def try_one(trial, words, given=b""):
     """Gives the program these words and this input."""
-    begun = time.monotonic()
-    ran = run([trial.program, *words], given)
-    took = time.monotonic() - begun
-    is_right = ran.status in (0, 3) or (ran.status == 2 and REFUSAL.fullmatch(ran.out))
-    shown = [word[:60] for word in words[:8]]
-    trial.holds(is_right and took <= 5, f"status {ran.status} and {ran.out[:60]!r} after {took:.1f} seconds to {shown} and {given[:60]!r}")
+    out, status = answer_of([trial.program, *words], given)
+    is_right = status in (0, 3) or (status == 2 and REFUSAL.fullmatch(out))
+    trial.holds(is_right, f"status {status} and {out[:60]!r} to {[word[:60] for word in words[:8]]} and {given[:60]!r}")
     trial.count(tried=1)
 
 

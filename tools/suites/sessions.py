@@ -217,14 +217,27 @@ def measure(doors, rounds):
     return tuple(map(min, zip(*found))), wrong
 
 
+def measure_beside(doors, others, times):
+    """The least median and tail of a line, those of a neighbour, and what is wrong. On a busy host it goes on for some rounds, until a line takes
+    at most so many times as long as the neighbour's, and its tail ten milliseconds more."""
+    for rounds in range(3, 16, 3):
+        then, wrong = measure(doors, rounds)
+        beside, faults = measure(others, rounds)
+        if wrong or faults or (then[0] <= times * beside[0] and then[1] <= times * beside[1] + 10 * MILLISECOND):
+            break
+    return then, beside, wrong + faults
+
+
 @suite.case(quiet=True, missing=lambda: "" if resource.getrlimit(resource.RLIMIT_NOFILE)[1] >= DESCRIPTORS else
             f"it wants {DESCRIPTORS} descriptors (ulimit -Hn)")
 def ten_thousand(trial):
     """Little memory and little time for each; and nothing of them is left. On a busy host it takes over a minute to open them."""
-    node = trial.running_node(trial.masters(3), workers=WORKERS, idle="600s")
+    masters = trial.masters(3)
+    node, neighbour = (trial.running_node(masters, workers=WORKERS, idle="600s") for _ in range(2))
     with contextlib.ExitStack() as stack:
         few = [Door(stack, node.address) for _ in range(WORKERS)]
-        first, wrong = measure(few * 16, 3)
+        others = [Door(stack, neighbour.address) for _ in range(WORKERS)] * 16
+        wrong, _ = wrong_in(few)
         yield from wrong
         few_memory, _, _ = node.resources()
         began = time.monotonic()
@@ -233,18 +246,18 @@ def ten_thousand(trial):
         yield from wrong
         took = time.monotonic() - began
         yield from node.comes_to("sessions_open", MANY, 2)
-        then, wrong = measure(doors[::MANY // 500], 3)
+        then, beside, wrong = measure_beside(doors[::MANY // 500], others, 4)
         yield from wrong
         memory, descriptors, _ = node.resources()
         of_one = (memory - few_memory) * 1024 / (MANY - WORKERS)
-        trial.note(f"{MANY} sessions, opened and asked in {took:.1f} s; a line takes {in_us(then)} us (median, 99th percentile), and {in_us(first)} "
-                   f"with {WORKERS}; {of_one:.0f} bytes of memory each, {memory} KiB in all")
+        trial.note(f"{MANY} sessions, opened and asked in {took:.1f} s; a line takes {in_us(then)} us (median, 99th percentile), and "
+                   f"{in_us(beside)} with {WORKERS}; {of_one:.0f} bytes of memory each, {memory} KiB in all")
         if of_one > 4096:
             yield f"{of_one:.0f} bytes of memory for each session"
         if descriptors < MANY:
             yield f"{descriptors} descriptors"
-        if then[0] > 4 * first[0] or then[1] > 4 * first[1] + 10 * MILLISECOND:
-            yield f"a line takes {in_us(then)} us with {MANY} sessions, and {in_us(first)} with {WORKERS}"
+        if then[0] > 4 * beside[0] or then[1] > 4 * beside[1] + 10 * MILLISECOND:
+            yield f"a line takes {in_us(then)} us with {MANY} sessions, and {in_us(beside)} with {WORKERS}"
         if not (idle := idle_cost(node)) < SECOND // 5:
             yield f"{idle // MILLISECOND} ms of processor time in a second in which no line comes"
         for door in doors:
@@ -253,14 +266,15 @@ def ten_thousand(trial):
     yield from node.comes_to("workers_busy", 0, 1)
     with contextlib.ExitStack() as stack:
         doors = [Door(stack, node.address) for _ in range(WORKERS)]
-        again, wrong = measure(doors * 16, 3)
+        others = [Door(stack, neighbour.address) for _ in range(WORKERS)] * 16
+        again, beside, wrong = measure_beside(doors * 16, others, 3)
         yield from wrong
         left = node.resources()
         trial.note(f"after them a line takes {in_us(again)} us, and {left[0]} KiB are in use")
         if left[1] > descriptors - MANY + WORKERS:
             yield f"{left[1]} descriptors are left, of which {WORKERS} are of sessions"
-        if again[0] > 3 * first[0]:
-            yield f"a line takes {in_us(again)} us after them, and took {in_us(first)} before"
+        if again[0] > 3 * beside[0]:
+            yield f"a line takes {in_us(again)} us after them, and {in_us(beside)} at a neighbour"
     yield from node.answers()
 
 
