@@ -40,7 +40,7 @@ DOCUMENTS = ("OPERATING", "UPGRADES", "MASTERS", "FORMATS", "THREATS", "EMBEDDIN
 # Where each file of a package is from. What has no place in the repository is made; of the program only the symbols are missing.
 FILES = {
     "libtruetime-dev": {
-        **{f"usr/include/{name}": f"clients/c/{name}" for name in ("truetime.h", "truetime_errors.h", "truetime_session.h", "truetime_stamper.h")},
+        **{f"usr/include/truetime{name}.h": f"clients/c/truetime{name}.h" for name in ("", "_errors", "_pending", "_session", "_stamper")},
         "usr/share/pkgconfig/truetime.pc": "clients/c/truetime.pc",
         "usr/share/cmake/truetime/truetime-config.cmake": None, "usr/share/cmake/truetime/truetime-config-version.cmake": None,
     },
