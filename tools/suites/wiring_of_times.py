@@ -218,18 +218,33 @@ def waits_of_names(trial):
     waits_for(trial, notes, "park", "records", others=[(70 * MILLISECOND, 70 * MILLISECOND), (TIMES["quick round"], TIMES["quick round"])])
 
 
-@suite.case()
-def minute_between_lookups(trial):
-    """The name of a silent master is looked up again a minute after its last lookup ended, however long that took."""
+def named_by_one(trial):
+    """A machine whose first master is silent and has a name; its spoiled calls, and how often that name was looked up."""
     silent_one = {"address": f"localhost:{free_port(socket.SOCK_DGRAM)}", "key": 7}
     spoils, node = Spoils(trial.room), trial.node([silent_one, *({"address": master.address} for master in trial.scripts(honest, honest))],
                                                   keys=keys_at(trial), on_break="warn", faulty=1)
     node.environment = spoils.environment
     spoils.tell("lookups")
+    return node, spoils, lambda: len(read_text(spoils.path("lookups")))
 
-    def looks():
-        return len(read_text(spoils.path("lookups")))
 
+@suite.case()
+def minute_between_failed_lookups(trial):
+    """A name without an address is looked up again a minute later, too."""
+    node, spoils, looks = named_by_one(trial)
+    spoils.tell("addresses", 64 * "x")  # no server of names is asked for a part of 64 letters
+    node.run()
+    trial.check("time lookup", eventually(looks), "its name is not looked up")
+    time.sleep(3.5)  # it looks each second whether one is due
+    trial.equal("time lookup", looks(), 1)
+    spoils.turn(jump_ns=61 * SECOND)
+    trial.check("time lookup", eventually(lambda: looks() == 2), f"{looks()} lookups in more than a minute")
+
+
+@suite.case()
+def minute_between_lookups(trial):
+    """The name of a silent master is looked up again a minute after its last lookup ended, however long that took."""
+    node, spoils, looks = named_by_one(trial)
     with spoils.spoiled("lookup"):
         node.run()
         trial.check("time lookup", eventually(looks), "its name is not looked up")

@@ -4,8 +4,11 @@ The conversations of both are in tools/suites/clients.py. Run by `python aio_tes
 """
 import asyncio
 import contextlib
+import os
 import pathlib
+import socket
 import sys
+import tempfile
 import time
 import unittest
 
@@ -14,6 +17,10 @@ sys.path.insert(0, str(pathlib.Path(__file__).resolve().parent.parent))
 from truetime import CommitPending, Interval, Refused, aio  # noqa: E402
 
 LIMIT_S = 8
+
+
+def descriptors():
+    return len(os.listdir("/proc/self/fd"))
 
 
 class StandIn:
@@ -247,6 +254,31 @@ class Tasks(unittest.IsolatedAsyncioTestCase):
                 await aio.Session.connect(where, 5)
             with self.assertRaises(OSError):
                 await aio.Session(where, 5).now()
+
+    async def test_closed_when_close_is_over(self):
+        async with StandIn([], []) as (stand_in, session):
+            before = descriptors()
+            other = await aio.Session.connect(stand_in.server.sockets[0].getsockname(), LIMIT_S)
+            while descriptors() != before + 2:  # both ends are here
+                await asyncio.sleep(0.001)
+            await other.close()
+            self.assertLessEqual(descriptors(), before + 1)
+
+    async def test_nothing_goes_on_behind_a_late_connecting(self):
+        """A socket at which as many wait as may: who does not get in within the time-out tries no more."""
+        with tempfile.TemporaryDirectory() as room, socket.socket(socket.AF_UNIX) as full, contextlib.ExitStack() as others:
+            full.bind(os.path.join(room, "socket"))
+            full.listen(0)
+            with self.assertRaises(BlockingIOError):
+                while True:
+                    other = others.enter_context(socket.socket(socket.AF_UNIX))
+                    other.setblocking(False)
+                    other.connect(full.getsockname())
+            for _ in range(3):
+                with self.assertRaises(TimeoutError):
+                    await aio.Session.connect(full.getsockname(), 0.05)
+            await asyncio.sleep(0.05)
+            self.assertEqual(asyncio.all_tasks(), {asyncio.current_task()})
 
 
 if __name__ == "__main__":
