@@ -177,6 +177,29 @@ def clients_that_take_their_time(trial):
 
 
 @suite.case(quiet=True)
+def clients_that_come_behind_others(trial):
+    """A client that sends nothing ends two seconds after it came, also where one that came later has the place of one that came before it."""
+    node, port = with_pages(trial, trial.scripts(honest))
+    node.run()
+    node.wait_until_ready()
+    for _ in range(3):  # the host may be busy
+        with contextlib.ExitStack() as stack:
+            first = socket.create_connection(("127.0.0.1", port), 5)
+            time.sleep(0.9)
+            second = stack.enter_context(socket.create_connection(("127.0.0.1", port), 5))
+            began = time.monotonic()
+            first.close()
+            time.sleep(0.8)
+            stack.enter_context(socket.create_connection(("127.0.0.1", port), 5))
+            with contextlib.suppress(ConnectionError):
+                second.recv(1)
+            took = time.monotonic() - began
+        if took < 2.5:
+            break
+    trial.between("seconds of a client that sends nothing", 1.9, took, 2.5)
+
+
+@suite.case(quiet=True)
 def five_hundred_slow_clients(trial):
     """They send a byte now and then. Three times one more has its answer soon. Eight of them at most are served at a time, each for two
     seconds in all, and the others are closed at once."""

@@ -238,6 +238,21 @@ public final class ClientTest {
         Files.delete(address.getPath());
     }
 
+    private static int descriptors() {
+        return new java.io.File("/proc/self/fd").list().length;
+    }
+
+    /** Connecting that fails leaves nothing open, also before there is an address. */
+    private static void failedConnecting() throws Exception {
+        InetSocketAddress nowhere = InetSocketAddress.createUnresolved("x".repeat(64) + ".test", 1);
+        thrown(() -> Session.connect(nowhere, TIMEOUT));
+        int before = descriptors();
+        for (int turn = 0; turn < 50; turn++) {
+            thrown(() -> Session.connect(nowhere, TIMEOUT));
+        }
+        check(descriptors() < before + 50, before, descriptors());
+    }
+
     /** Runs all. */
     public static void main(String[] words) throws Exception {
         Path room = Files.createTempDirectory("truetime");
@@ -245,6 +260,7 @@ public final class ClientTest {
         log();
         pools();
         fullSocket(room);
+        failedConnecting();
         Files.delete(room.resolve("time"));
         Files.delete(room);
         System.out.println("passed: " + checks + " checks");
