@@ -2,7 +2,7 @@
  * the monotonic clock shows ten seconds less (`clock`), no packet is received (`receive`), none is sent to port N (`send-N`), sending
  * one lasts until the file is gone (`sending`), and so do a rename (`rename`), a write at a place of a file (`writing`), a look for the
  * addresses of a name (`lookup`) and a look at the real-time clock (`telling`); a connection takes seven bytes at a time (`few`); there are
- * no random bytes (`random`), and no IPv6 (`six`). Each look for addresses adds a byte to the file `lookups`, if it is there, and finds
+ * no random bytes (`random`), and no IPv6 (`six`); a sleep lasts a hundredth of its time (`hasty`). Each look for addresses adds a byte to the file `lookups`, if it is there, and finds
  * those that the file `addresses` has, if that is there. It stands before the C library by LD_PRELOAD.
  *
  * Others say in their file what is shown. `course` has lines FROM SHOWN RATE, in nanoseconds and parts per million: once the monotonic
@@ -172,6 +172,12 @@ int getentropy(void *place, size_t size) {
         return -1;
     }
     return syscall(SYS_getrandom, place, size, 0) == (ssize_t)size ? 0 : -1;
+}
+
+int nanosleep(const struct timespec *wanted, struct timespec *left) {
+    long long length = is_spoiled("hasty") ? nanoseconds_in(*wanted) / 100 : nanoseconds_in(*wanted);
+    struct timespec time = {length / SECOND, length % SECOND};
+    return (int)syscall(SYS_nanosleep, &time, left);
 }
 
 int rename(const char *from, const char *to) {

@@ -10,7 +10,7 @@ import xml.etree.ElementTree
 
 from harness.processes import free_port
 from harness.program import read_text, run, write
-from harness.trouble import Answerer, honest, silent
+from harness.trouble import Answerer, Spoils, honest, silent
 from suites.wiring import suite
 from suites.wiring_checks import eventually, spans
 from suites.wiring_of_pages import get
@@ -220,6 +220,29 @@ def top_again(trial):
     trial.equal("top", len(fused[6:].split("  ")[0].rstrip()) <= 49, True)
     width = next(line for line in last if line.startswith("width"))
     trial.check("top", re.search("[▁▂▃▄▅▆▇█]{2,}", width), f"no widths are in {width!r}")
+
+
+@suite.case()
+def top_for_long(trial):
+    """The widths of the last looks are drawn, also once there were more of them than are kept."""
+    if trial.program.endswith(".unproved"):
+        trial.note("350 looks take a program without proofs two minutes, and are left out")
+        return
+    node, _ = machine(trial)
+    text = eventually(lambda: (seen := read_text(node.path("status"))).count("truetime_width_seconds{") and seen)
+    node.kill()
+    spoils, frames = Spoils(trial.room), b""
+    spoils.tell("hasty")
+    with subprocess.Popen([trial.program, "top", node.path("node.toml")], env=spoils.environment | {"COLUMNS": "100", "LC_ALL": "C.UTF-8"},
+                          cwd=node.folder, stdout=subprocess.PIPE) as ran:
+        for seconds, number in (0.001, 310), (0.05, 40):  # and each in its turn is that of so many looks
+            write(node.path("status"), re.sub(r"^(truetime_width_seconds\{.*}) .*$", rf"\1 {seconds}", text, flags=re.M).encode())
+            while frames.count(CLEAR) < number:
+                frames += os.read(ran.stdout.fileno(), 65536)
+            *_, whole, frames = frames.split(CLEAR)
+        ran.kill()
+    width = next(line for line in whole.decode(errors="replace").splitlines() if line.startswith("width"))
+    trial.check("top", re.search("[▁▂▃▄]+[▆▇█]{20}", width), f"the last of 350 widths are {width!r}")
 
 
 @suite.case()
