@@ -223,12 +223,19 @@ class Life(Machine):
         if self.running.poll() is None:
             self.outcome.late.append(fault)
 
+    def patience(self):
+        """How long a session waits for a reply, in seconds. Where the clock fails once as its worker looks at it, a line may wait until something
+        else comes: then the session counts as lost, and the next one has to go well."""
+        if self.outcome.is_lasting():
+            return 0.2
+        return 2 if self.outcome.kind == "FAIL_CLOCK_GETTIME" else LONGEST_S
+
     def use(self, address):
         """Whether a session goes well. One in which a call fails is lost or refused."""
         if isinstance(address, str) and not os.path.exists(address):
             raise ConnectionRefusedError
         try:
-            with truetime.Session(address, 0.2 if self.outcome.is_lasting() else LONGEST_S) as session:
+            with truetime.Session(address, self.patience()) as session:
                 self.seen.read(session)
                 self.has_served = True
                 self.seen.commit(session, "A")
