@@ -175,9 +175,11 @@ int getentropy(void *place, size_t size) {
 }
 
 int nanosleep(const struct timespec *wanted, struct timespec *left) {
+    int (*rest)(const struct timespec *, struct timespec *);
     long long length = is_spoiled("hasty") ? nanoseconds_in(*wanted) / 100 : nanoseconds_in(*wanted);
     struct timespec time = {length / SECOND, length % SECOND};
-    return (int)syscall(SYS_nanosleep, &time, left);
+    *(void **)&rest = dlsym(RTLD_NEXT, "nanosleep");
+    return rest(&time, left);
 }
 
 int rename(const char *from, const char *to) {
