@@ -224,8 +224,8 @@ class Life(Machine):
             self.outcome.late.append(fault)
 
     def patience(self):
-        """How long a session waits for a reply, in seconds. Where the clock fails once as its worker looks at it, a line may wait until something
-        else comes: then the session counts as lost, and the next one has to go well."""
+        """How long a session waits for a reply, in seconds. Where the clock fails at a release step, what went by since is never known, and the
+        worker holds that commit's next line again and again: the session counts as lost, and the next one has to go well."""
         if self.outcome.is_lasting():
             return 0.2
         return 2 if self.outcome.kind == "FAIL_CLOCK_GETTIME" else LONGEST_S

@@ -75,8 +75,11 @@ func (p *Pool) last() (*Session, error) {
 	return session, nil
 }
 
-// Put gives a session of Get back, once. A commit that is pending then is never known as released.
+// Put gives a session of Get back, once. A commit that is pending then is never known as released. It panics where none is out.
 func (p *Pool) Put(session *Session) {
+	if len(p.places) == 0 {
+		panic("truetime: a session is put back, and none is out")
+	}
 	if !p.keep(session) {
 		session.Close()
 	}

@@ -104,13 +104,28 @@ func TestPoolWhoseDialFails(t *testing.T) {
 	}
 }
 
-func TestPoolOfNone(t *testing.T) {
-	defer func() {
-		if recover() == nil {
-			t.Error("it has no session")
-		}
-	}()
-	NewPool(0, nil)
+// panics says whether a call does.
+func panics(call func()) (did bool) {
+	defer func() { did = recover() != nil }()
+	call()
+	return false
+}
+
+func TestMisusedPools(t *testing.T) {
+	if !panics(func() { NewPool(0, nil) }) {
+		t.Error("it has no session")
+	}
+	address := releasing(t)
+	pool := NewPool(2, func(ctx context.Context) (*Session, error) { return Dial(ctx, "tcp", address) })
+	defer pool.Close()
+	session, err := pool.Get(always)
+	if err != nil {
+		t.Fatal(err)
+	}
+	pool.Put(session)
+	if !panics(func() { pool.Put(session) }) {
+		t.Error("it came back twice")
+	}
 }
 
 func TestLogger(t *testing.T) {

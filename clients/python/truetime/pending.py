@@ -48,8 +48,11 @@ class PendingTable:
         return self._stamper.wait_past(stamp_ns, timeout_s)
 
     def commit(self, write: Callable[[int], None], floor_ns: int = 0) -> int:
-        """Begins a commit, has it written under its stamp, and waits until that has surely passed: its stamp. Where ``write`` raises,
-        the commit is given up."""
+        """Begins a commit, has it written under its stamp, and waits until that has surely passed: its stamp.
+
+        Where ``write`` raises, the commit counts as ended: it has to be written by then, or never to be. Where that is not known, as
+        behind a lost connection to the database, call :meth:`begin`, and end it once it is.
+        """
         stamp_ns = self.begin(floor_ns)
         try:
             write(stamp_ns)

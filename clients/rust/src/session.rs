@@ -228,7 +228,7 @@ pub struct Session {
 }
 
 impl Session {
-    /// Connects to a TCP address, as `"127.0.0.1:5601"` or `("localhost", 5601)`; a name is looked up once. `timeout` is how long
+    /// Connects to a TCP address, as `"127.0.0.1:5601"` or `("localhost", 5601)`; a name is looked up here, without a time-out. `timeout` is how long
     /// connecting, sending, each receiving and the waiting for a release may take, however many signals come; it may not be zero.
     /// Connecting anew is part of the sending and receiving that follow it.
     pub fn connect_tcp(address: impl ToSocketAddrs, timeout: Duration) -> Result<Session, Error> {

@@ -298,7 +298,10 @@ public final class Session implements AutoCloseable {
         }
     }
 
-    /** Ends the session for good. A commit that is not released then is never known as released. */
+    /**
+     * Ends the session for good, once no call of another thread is under way. A commit that is not released then is never known as
+     * released.
+     */
     @Override
     public synchronized void close() throws IOException {
         isClosed = true;
