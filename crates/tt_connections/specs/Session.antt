@@ -1,5 +1,5 @@
--- When a client has left, and how its waits are counted.
-use Rattle.std.specs.Prelude.{List, [], ◌∷◌, count_by, ℕ, ◌+◌, nat_lt, if◌then◌else◌, Bool, true, false, Option, Some, None}
+-- When a client has left, how long its commit still waits, and how its waits are counted.
+use Rattle.std.specs.Prelude.{List, [], ◌∷◌, count_by, ℕ, ◌+◌, ◌-◌, nat_lt, if◌then◌else◌, Bool, true, false, Option, Some, None}
 use Rattle.tt_connections.specs.declared.sights.Seen.{Seen}
 use Rattle.tt_connections.specs.declared.sights.Seen.TheVariants.{Open, Closed, Broken}
 
@@ -30,3 +30,9 @@ is_gone_at seen since idle (Some now) = is_gone seen since idle now
 is_gone_at Broken since idle None = true
 is_gone_at Open since idle None = false
 is_gone_at Closed since idle None = false
+
+-- how much of the pause behind a release step is left, by what the client's clock showed at the step and what it shows now: nothing is known, and nothing is left, where it could not be read at the step; else what has gone by since is taken off, and nothing where it can't be read now
+abbrev pub pause_left : ℕ → Option ℕ → Option ℕ → Option ℕ
+pause_left pause None now = None
+pause_left pause (Some before) None = Some pause
+pause_left pause (Some before) (Some now) = Some (pause - (now - before))

@@ -1,8 +1,9 @@
 //! The book of a session, and the pause before the next release step of its pending commit.
 
-ghost use Rattle.std.specs.Prelude.{◌≡◌, ◌≤◌, nat_lt, length, [], None};
+ghost use Rattle.std.specs.Prelude.{◌≡◌, nat_lt, length, [], None};
 ghost use Rattle.tt_stamp.specs.History.{waiting_of};
 ghost use Rattle.tt_session.specs.Commits.{ReleasesBy, pause_of};
+ghost use Rattle.tt_connections.specs.Session.{pause_left};
 ghost use Rattle.tt_connections.specs.Station.{QueuesPage};
 
 use std::alloc::Global;
@@ -39,21 +40,30 @@ pub(crate) struct Missed {
     stamp: u64,
     /// The earliest of the step's reading.
     earliest: u64,
-    /// What the client's device showed then, if it has a clock.
+    /// What the clock of the client's device showed then. None if it has none, or if that could not be read.
     clock: Option<u64>,
 }
 
 impl Missed {
-    /// How much of the pause behind the step is left where the client's device shows this now: [`pause_for`] the stamp and
-    /// the earliest of the step's reading, less what has gone by since.
-    pub(crate) fn left_by(&self, clock: Option<u64>) -> u64
-        ensures { result ≤ pause_of self.now.stamp self.now.earliest }
+    /// The pause behind the step: [`pause_for`] the stamp and the earliest of the step's reading.
+    pub(crate) fn pause(&self) -> u64
+        ensures { result ≡ pause_of self.now.stamp self.now.earliest }
     {
-        let gone = match (self.clock, clock) {
-            (Some(then), Some(now)) => now.saturating_sub(then),
-            _ => 0,
+        pause_for(self.stamp, self.earliest)
+    }
+
+    /// How much of the pause behind a release step is left, in nanoseconds, and None if the clock of the client's device
+    /// could not be read at the step, since what has gone by is never known then. If that clock shows this now, what has
+    /// gone by since the step is taken off; nothing is if it can't be read now.
+    pub(crate) fn left_by(&self, clock: Option<u64>) -> Option<u64>
+        ensures value { result ≡ pause_left (pause_of self.now.stamp self.now.earliest) self.now.clock clock }
+    {
+        let before = self.clock?;
+        let gone = match clock {
+            Some(now) => now.saturating_sub(before),
+            None => 0,
         };
-        pause_for(self.stamp, self.earliest).saturating_sub(gone)
+        Some(self.pause().saturating_sub(gone))
     }
 }
 

@@ -132,12 +132,18 @@ impl<'a, 'c, R: Wait, C: Clock, V: Presence> Station<'a, 'c, R, C, V> {
         Ok(stamp)
     }
 
-    /// Waits for what is left of the pause behind the last release step of the commit, if one was made.
+    /// Waits for what is left of the pause behind the last release step of the commit, if one was made: for all of it if
+    /// the client's device has no clock, and not at all if that could not be read at the step, but can now.
     fn wait_on(&self) {
         let Some(missed) = self.book.missed() else {
             return;
         };
-        let left = missed.left_by(self.client.clock());
+        let clock = self.client.clock();
+        let left = match missed.left_by(clock) {
+            Some(left) => left,
+            None if clock.is_none() => missed.pause(),
+            None => 0,
+        };
         if left > 0 {
             self.post.pause(left);
         }

@@ -82,7 +82,7 @@ impl Visit {
 
     /// At most a pause and its margin, and None if no commit is pending. So many nanoseconds the pending commit should
     /// still wait before its next release step, where the client's device shows this now: what is left of the pause behind
-    /// the step before. None too if no release step of it was made.
+    /// the step before. None too if no release step of it was made, or if the device's clock could not be read at that step.
     pub fn left(&self, clock: Option<u64>) -> Option<u64>
         ensures none { length (waiting_of self.now.book) ≡ 0 → result ≡ None }
         ensures most { IfSome result (λ left. left ≤ max_pause + pause_margin) }
@@ -91,7 +91,7 @@ impl Visit {
             return None;
         }
         let missed = self.book.missed()?;
-        Some(missed.left_by(clock))
+        missed.left_by(clock)
     }
 
     /// Ends the session. The client's device is told if a commit is still pending.

@@ -30,6 +30,9 @@ ruled lease (first ∷ before) rule given there =
 pub stamper-leased : (stamper : Stamper) (given : GivenStamp) → FollowsRule stamper.lease stamper.given → Contains stamper.given given → Holds stamper.lease given.stamp
 stamper-leased stamper given rule there = (ruled stamper.lease stamper.given rule given there).0
 
+pub stamper-latest : (stamper : Stamper) (given : GivenStamp) → FollowsRule stamper.lease stamper.given → Contains stamper.given given → given.reading.hi ≤ given.stamp
+stamper-latest stamper given rule there = (ruled stamper.lease stamper.given rule given there).1
+
 pub stampers-apart : (one other : Stamper) (given other_given : GivenStamp) → (Meets one.lease other.lease → ⊥) → FollowsRule one.lease one.given → FollowsRule other.lease other.given → Contains one.given given → Contains other.given other_given → given.stamp ≡ other_given.stamp → ⊥
 stampers-apart one other given other_given apart rule other_rule there other_there same =
     apart (given.stamp, stamper-leased one given rule there, subst (Holds other.lease) (sym same) (stamper-leased other other_given other_rule other_there))

@@ -34,6 +34,8 @@ mod WorkedNode
 mod Working
 mod WorkedLife
 mod BesideSessions
+mod Snapshots
+mod WorkedSnapshots
 pub mod Cutting
 pub mod LeastCuts
 mod CuttingNodes

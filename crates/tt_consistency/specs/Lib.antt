@@ -14,6 +14,7 @@ pub mod Worked
 pub mod Lives
 pub mod Assumed
 pub mod Stampers
+pub mod Snapshots
 pub mod Cuts
 pub mod NodeCuts
 pub mod Coming

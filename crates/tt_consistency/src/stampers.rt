@@ -1,6 +1,6 @@
 //! The laws of stampers, beside the sessions of machines.
 
-ghost use Rattle.std.specs.Prelude.{◌≡◌, ℕ, ◌<◌, List, ◌∷◌, ◌++◌, Some, All, Contains};
+ghost use Rattle.std.specs.Prelude.{◌≡◌, ℕ, ◌<◌, ◌≤◌, List, ◌∷◌, ◌++◌, Some, All, Contains};
 ghost use Rattle.tt_span.specs.Interval.{Interval, Holds, Meets};
 ghost use Rattle.tt_judge.specs.Consistency.{IsConsistent};
 ghost use Rattle.tt_judge.specs.declared.history.Commit.{Commit};
@@ -8,6 +8,7 @@ ghost use Rattle.tt_connections.specs.Sessions.{WorkerSession};
 ghost use Rattle.tt_consistency.specs.Assumed.{IsLived, TimedLife};
 ghost use Rattle.tt_consistency.specs.Lives.{IsLife, Life, WorkerLife};
 ghost use Rattle.tt_consistency.specs.Order.{BeginsAt, IsWithin};
+ghost use Rattle.tt_consistency.specs.Snapshots.{AreEndedUpTo, Becomes, CommitTable, IsMadeReadable, ShowTheSame};
 ghost use Rattle.tt_consistency.specs.Stampers.{FollowsRule, GivenStamp, IsRightStamper, IsSeenAtStamper, IsSeenInEither, Stamper};
 ghost use Rattle.tt_consistency.specs.Timed.{CallTimes, timed_of};
 
@@ -45,4 +46,17 @@ pub fn stamper_laws<C: Clock, V: Presence>()
     // externally consistent, as `tt_judge` judges it.
     ensures consistent { (waits : ℕ) (lives : List (TimedLife C.gives C.failed V.says waits)) (stampers : List Stamper) (history : List Commit) →
         All IsLived lives → All IsRightStamper stampers → All (IsSeenInEither lives stampers) history → IsConsistent history }
+
+    // A snapshot that was made readable beside the table of pending commits misses no commit up to its time: each that is
+    // ever begun with such a stamp was written or given up by then.
+    ensures whole { (stamper : Stamper) (table after : CommitTable) (t : ℕ) (made : IsMadeReadable table t) → IsRightStamper stamper →
+        stamper.given ≡ after.begun → Becomes made.read table after → AreEndedUpTo table after.begun t }
+
+    // So it shows the same for ever: no later commit becomes visible at its time.
+    ensures unchanging { (stamper : Stamper) (table after : CommitTable) (t : ℕ) (made : IsMadeReadable table t) → IsRightStamper stamper →
+        stamper.given ≡ after.begun → Becomes made.read table after → ShowTheSame table after t }
+
+    // In a worked course of a table all that is assumed for this holds.
+    ensures worked_snapshot { (stamper : Stamper) × (table : CommitTable) × (after : CommitTable) × (t : ℕ) × (made : IsMadeReadable table t)
+        × IsRightStamper stamper × (stamper.given ≡ after.begun) × Becomes made.read table after }
 {}

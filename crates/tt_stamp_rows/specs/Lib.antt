@@ -1,2 +1,5 @@
 pub mod Answer
 pub mod Asked
+pub mod Call
+pub mod Grid
+pub mod Table

@@ -83,9 +83,9 @@ impl Connection {
         self.since
     }
 
-    /// The time of a line begins when the clock shows `now`.
+    /// The time of a line begins at this clock reading, which may be an old one: never before that of the line before it.
     pub(crate) fn begin_line(&mut self, now: u64) {
-        self.since = now;
+        self.since = self.since.max(now);
     }
 
     /// Whether the client has had its time when the clock shows `now`: a line took longer than `idle`, or the session
@@ -160,9 +160,13 @@ impl Connection {
         self.held.extend_from_slice(bytes).is_ok()
     }
 
-    /// Whether bytes are held, and a turn may hear them when the clock shows `now`.
-    pub(crate) fn is_due(&self, now: u64) -> bool {
-        !self.held.is_empty() && self.due <= now.saturating_add(SOON)
+    /// Whether bytes are held, and a turn may hear them when the clock shows `now`, or can't be read.
+    pub(crate) fn is_due(&self, now: Option<u64>) -> bool {
+        let has_waited = match now {
+            Some(now) => self.due <= now.saturating_add(SOON),
+            None => true,
+        };
+        !self.held.is_empty() && has_waited
     }
 
     /// Takes the bytes that are held.

@@ -83,11 +83,11 @@ struct Untold {
 }
 
 impl<'a, R: Wait + SystemClock> ConnectionTable<'a, R> {
-    /// Reads the clock. It stays as it was if that fails.
-    fn read_clock(&mut self) {
-        if let Some(now) = reading_of(self.tools.rt) {
-            self.clock = now;
-        }
+    /// Reads the clock, and answers what it shows. The last reading stays as it was if that fails.
+    fn read_clock(&mut self) -> Option<u64> {
+        let now = reading_of(self.tools.rt)?;
+        self.clock = now;
+        Some(now)
     }
 
     /// The only connection, if there is one alone, no other session has to share this worker, and nothing of it is held
@@ -164,17 +164,20 @@ impl<'a, R: Wait + SystemClock> ConnectionTable<'a, R> {
     fn hold(&mut self, place: usize, bytes: &[u8], due: u64) -> bool {
         match self.connections.get_mut(place) {
             Some(Some(connection)) => {
+                if !connection.hold(bytes, due) {
+                    return false;
+                }
                 self.held = self.held.saturating_add(1);
-                connection.hold(bytes, due)
+                true
             }
             _ => false,
         }
     }
 
-    /// Takes the bytes that are held at this place, if they are due at the last clock reading.
-    fn take_held(&mut self, place: usize) -> Option<Vec<u8>> {
+    /// Takes the bytes that are held at this place, if they are due when the clock shows `now`, or can't be read.
+    fn take_held(&mut self, place: usize, now: Option<u64>) -> Option<Vec<u8>> {
         match self.connections.get_mut(place) {
-            Some(Some(connection)) if connection.is_due(self.clock) => {
+            Some(Some(connection)) if connection.is_due(now) => {
                 self.held = self.held.saturating_sub(1);
                 Some(connection.take_held(self.tools.alloc))
             }
@@ -583,15 +586,16 @@ fn serve_all<'a, R: Wait + SystemClock>(
     }
 }
 
-/// Hears the bytes that are held and due at the last clock reading.
+/// Hears the bytes that are held and due. If the clock can't be read, it hears all that are held: their sessions are told so.
 fn serve_held<'a, R: Wait + SystemClock>(
     worker: &mut Worker<'a, R>,
     table: &mut ConnectionTable<'a, R>,
 )
     ensures first { worker.new.first ≡ worker.old.first }
 {
+    let now = table.read_clock();
     for place in 0..table.connections.len() {
-        if let Some(bytes) = table.take_held(place) {
+        if let Some(bytes) = table.take_held(place, now) {
             table.set_waits(place, false);
             let goes_on = feed(worker, table, place, bytes.as_slice());
             if !goes_on {
@@ -664,7 +668,6 @@ pub fn work<'a, R: Wait + SystemClock>(
             None => serve_all(&mut worker, &mut table, &mut buffer),
         }
         if table.held > 0 {
-            table.read_clock();
             serve_held(&mut worker, &mut table);
         }
         if table.clock.saturating_sub(table.told) >= TELL {
