@@ -2,21 +2,16 @@
 import contextlib
 import glob
 import os
-import shutil
-import signal
-import socket
 import sqlite3
-import subprocess
 import threading
 import time
 
-try:
-    import psycopg2
-except ImportError:
-    psycopg2 = None  # only PostgresPlace needs it
+from harness import postgres
+from harness.postgres import Cluster
 
-POSTGRES = "/usr/lib/postgresql/15/bin"
+SETTINGS = {"fsync": "off", "synchronous_commit": "off", "shared_buffers": "16MB"}
 FAKETIME = os.environ.get("LIBFAKETIME", "/usr/lib/*/faketime/libfaketime.so.1")
+CLOCK = "create function clock() returns bigint language sql as 'select (extract(epoch from clock_timestamp()) * 1000000000)::bigint'"
 TABLE = "create table versions (key text, stamp bigint, value text, primary key (key, stamp))"
 WRITE = "insert into versions values (?, ?, ?)"
 WRITE_BY_CLOCK = "insert into versions values (?, clock(), ?) returning stamp"
@@ -46,7 +41,7 @@ class Place:
 
     def clock(self):
         """The clock of this machine, in nanoseconds."""
-        return self.execute("select clock()")[0]
+        return int(self.execute("select clock()")[0])
 
     @contextlib.contextmanager
     def transaction(self):
@@ -62,14 +57,14 @@ class Place:
     def newest(self, key):
         """The stamp of the newest version that is there; 0 where there is none."""
         row = self.execute(NEWEST, key)
-        return row[0] if row else 0
+        return int(row[0]) if row else 0
 
     def write(self, key, value, stamp):
         self.execute(WRITE, key, stamp, value)
 
     def write_by_clock(self, key, value):
         """Writes a value under the database's own time; its stamp."""
-        return self.execute(WRITE_BY_CLOCK, key, value)[0]
+        return int(self.execute(WRITE_BY_CLOCK, key, value)[0])
 
     def read(self, key, stamp):
         """The value of the key in the snapshot at this stamp."""
@@ -99,76 +94,82 @@ class SqlitePlace(Place):
         self.leave()
 
 
-class PostgresPlace(Place):
-    """A server of PostgreSQL 15 with data of its own, under libfaketime if its clock is ahead."""
+class ServerPlace(Place):
+    """A server of PostgreSQL 15 with data of its own in a room for all of them."""
 
-    def __init__(self, name, path, ahead):
+    def __init__(self, name, cluster, *statements):
         super().__init__(name)
-        self.data = path
-        with socket.socket() as door:
-            door.bind(("127.0.0.1", 0))
-            self.port = door.getsockname()[1]
-        os.mkdir(self.data)
-        self.user = []
-        if os.geteuid() == 0:  # PostgreSQL refuses to run as root
-            self.user = ["setpriv", "--reuid=postgres", "--regid=postgres", "--clear-groups"]
-            shutil.chown(self.data, "postgres", "postgres")
-        self.process = self.start(ahead)
+        self.cluster = cluster
         try:
-            self.wait_until_ready()
-            self.execute(TABLE)
-            self.execute("create function clock() returns bigint language sql as "
-                         "'select (extract(epoch from clock_timestamp()) * 1000000000)::bigint'")
+            for text in statements:
+                self.execute(text)
         except BaseException:
             self.close()
             raise
 
-    def start(self, ahead):
-        """Makes the data and starts the server."""
-        subprocess.run([*self.user, f"{POSTGRES}/initdb", "-D", self.data, "-A", "trust", "-U", "demo", "--no-sync"],
-                       check=True, stdout=subprocess.DEVNULL, cwd="/")
-        shifted = []
-        if ahead:
-            shifted = ["env", f"LD_PRELOAD={glob.glob(FAKETIME)[0]}", f"FAKETIME=+{ahead / 1e9:.6f}", "FAKETIME_DONT_FAKE_MONOTONIC=1"]
-        words = [f"{POSTGRES}/postgres", "-D", self.data, "-p", str(self.port), "-h", "127.0.0.1", "-k", self.data, "-F",
-                 "-c", "synchronous_commit=off", "-c", "shared_buffers=16MB"]
-        with open(f"{self.data}.log", "wb") as log:
-            return subprocess.Popen([*self.user, *shifted, *words], stdout=log, stderr=log, cwd="/")
-
-    def wait_until_ready(self):
-        end = time.monotonic() + 15
-        while True:
-            try:
-                return self.connection()
-            except psycopg2.OperationalError as fault:
-                if time.monotonic() > end or self.process.poll() is not None:
-                    with open(f"{self.data}.log", encoding="utf-8", errors="replace") as log:
-                        raise OSError(f"PostgreSQL does not start: {log.read()[-1000:]}") from fault
-            time.sleep(0.05)
-
     def connect(self):
-        connection = psycopg2.connect(host="127.0.0.1", port=self.port, user="demo", dbname="postgres")
-        connection.autocommit = True
-        return connection
+        return self.cluster.connect()
 
     def execute(self, text, *values):
-        with self.connection().cursor() as cursor:
-            cursor.execute(text.replace("?", "%s"), values)
-            return cursor.fetchone() if cursor.description else None
+        first, *parts = text.split("?")
+        rows = self.connection().run(first + "".join(quoted(value) + part for value, part in zip(values, parts)))
+        return rows[0] if rows else None
 
     def close(self):
         self.leave()
-        self.process.send_signal(signal.SIGINT)  # ends its sessions and its processes
-        self.process.wait(timeout=20)
+        self.cluster.close()
+
+
+class PostgresPlace(ServerPlace):
+    """One under libfaketime if its clock is ahead."""
+
+    def __init__(self, name, path, ahead):
+        shifted = []
+        if ahead:
+            shifted = ["env", f"LD_PRELOAD={glob.glob(FAKETIME)[0]}", f"FAKETIME=+{ahead / 1e9:.6f}", "FAKETIME_DONT_FAKE_MONOTONIC=1"]
+        room, folder = os.path.split(path)
+        cluster = Cluster(postgres.installed_here(room), room, folder, "", behind=shifted, **SETTINGS, shared_preload_libraries="")
+        super().__init__(name, cluster, TABLE, CLOCK)
+
+
+class ExtensionPlace(ServerPlace):
+    """One that stamps each commit, by the extension of clients/postgres and the machine with this shared file. Its rows have no column for
+    that."""
+
+    def __init__(self, name, installed, room, shared):
+        cluster = Cluster(installed, room, f"extension-{name}", shared, **SETTINGS, **{"truetime.stamp": "all"})
+        super().__init__(name, cluster, "create extension truetime", "create table versions (key text, value text)",
+                         "create index on versions (key)")
+
+    def insert(self, key, value):
+        """Commits a value; its stamp, which came with the answer."""
+        self.execute("insert into versions values (?, ?)", key, value)
+        return self.connection().last_commit()
+
+    def latest(self):
+        return int(self.execute("select latest from truetime.now()")[0])
+
+    def make_readable(self, moment):
+        self.execute("select truetime.make_readable(?)", moment)
+
+    def newest(self, key):
+        return int(self.execute("select coalesce(max(truetime.stamp_of(xmin)), 0) from versions where key = ?", key)[0])
+
+    def read(self, key, stamp):
+        row = self.execute("select value from versions where key = ? and truetime.stamp_of(xmin) <= ? "
+                           "order by truetime.stamp_of(xmin) desc limit 1", key, stamp)
+        return row and row[0]
+
+
+def quoted(value):
+    return str(value) if isinstance(value, int) else "'" + value.replace("'", "''") + "'"
 
 
 def missing_for_postgres():
     """Debian's packages that PostgresPlace needs and that are not here."""
     missing = []
-    if not os.path.exists(f"{POSTGRES}/initdb"):
-        missing.append("postgresql")
+    if not os.path.exists(os.path.join(os.path.dirname(postgres.CONFIG), "initdb")):
+        missing.append("postgresql-15")
     if not glob.glob(FAKETIME):
         missing.append("libfaketime")
-    if psycopg2 is None:
-        missing.append("python3-psycopg2")
     return missing

@@ -18,6 +18,9 @@
  * Where an owner of the file or of its folder truncates the file, a mapped one raises SIGBUS. Open it with tt_open_unmapped,
  * and tt_now refuses instead; it makes three system calls more.
  *
+ * A call that would refuse, or give a reading that is not fresh, looks at the path, at most once a second. Where another file
+ * is there, as behind a restart, the client opens that by the same rules, and answers by it.
+ *
  * Reads version 2 of the format (its first four bytes are TTS2), and refuses a file of version 1 with 1702. Needs Linux on a little-endian 64-bit machine, and
  * GCC or Clang: C11 or later with POSIX (-std=gnu11, or -std=c11 -D_POSIX_C_SOURCE=200809L), or C++17.
  */
@@ -28,6 +31,7 @@
 
 #include <fcntl.h>
 #include <pwd.h>
+#include <sched.h>
 #include <stdbool.h>
 #include <stddef.h>
 #include <stdint.h>
@@ -71,11 +75,24 @@ enum tt_refusal {
 /* Which check of a file failed, behind TT_OTHER_FILE. */
 enum tt_file_fault { TT_FILE_KIND = 1, TT_FILE_OWNER, TT_FILE_WRITABLE, TT_FILE_FORMAT, TT_FILE_CLOCK };
 
+/* Where a file is, and what is known of it. Threads of one client share it. */
+typedef struct tt_place {
+    uint64_t turn;         /* its lowest bit says which of two pages, or of two descriptors, is the one in use */
+    int files[2];          /* where it is not mapped: the descriptors, or -1 */
+    uint64_t users[2];     /* and how many calls read by each */
+    uint64_t next_look_ns; /* the clock reading from which on the path may be looked at again */
+    bool is_looking;       /* whether a thread does so */
+    uid_t owner;
+    dev_t device;
+    ino_t inode;
+    char *path;
+} tt_place;
+
 /* A file. Set it by tt_open or tt_open_unmapped; after that any number of threads may use it. */
 typedef struct tt_client {
-    const uint64_t *words; /* where it is mapped */
-    int file;              /* where it is not */
-    bool is_unmapped;
+    const char *pages;  /* where it is mapped: two, TT_APART apart */
+    tt_place *place;    /* where it is open */
+    uint64_t max_width_ns;
     int refused, cause; /* why it is not open: TT_NO_FILE and the error number, or TT_OTHER_FILE and an enum tt_file_fault */
 } tt_client;
 
@@ -92,7 +109,8 @@ static inline const char *tt_cause(const tt_client *client) {
     }
 }
 
-/* The number of a user, by name, or by its digits. Refuses with 1702 where there is no such user. */
+/* The number of a user, by name, or by its digits. Refuses with 1702 where there is no such user: it sets no client, so tt_cause has
+ * nothing to say of that. */
 static inline int tt_uid(const char *user, uid_t *uid) {
     char *end;
     char text[4096];
@@ -124,6 +142,21 @@ typedef struct tt_reading {
 
 enum { TT_BYTES = 320, TT_INDEX_WORD = 2, TT_FIRST_SLOT = 8, TT_SLOT_WORDS = 16, TT_TRIES = 1000 };
 
+/* How far the two pages of a client are apart: as long as the longest page. */
+enum { TT_APART = 65536 };
+
+/* The time from one look at the path to the next. */
+#define TT_LOOK_NS UINT64_C(1000000000)
+
+/* Memory of no file, for which POSIX of 2008 has no name. */
+#ifdef MAP_ANONYMOUS
+#define TT_ANONYMOUS MAP_ANONYMOUS
+#elif defined(__mips__)
+#define TT_ANONYMOUS 0x800
+#else
+#define TT_ANONYMOUS 0x20
+#endif
+
 /* Whether CLOCK_MONOTONIC is here what it is to the daemon: the same boot, and no time namespace that shifts it. */
 static inline bool tt_is_same_clock(const char *boot) {
     char here[36];
@@ -146,60 +179,108 @@ static inline bool tt_pread(int file, void *bytes, size_t length, size_t at) {
     return is_whole;
 }
 
-static inline int tt_refuse(tt_client *client, int refused, int cause) {
-    client->refused = refused;
-    client->cause = cause;
+static inline int tt_refuse(int *cause, int refused, int why) {
+    *cause = why;
     return refused;
 }
 
 /* Refuses, with 1701 and 1702, all but the shared file of this boot that the user owns and nobody else may write. */
-static inline int tt_check_file(tt_client *client, uid_t owner) {
-    struct stat found;
+static inline int tt_check_file(int file, uid_t owner, struct stat *found, int *cause) {
     char head[8 * TT_FIRST_SLOT];
     errno = 0;
-    if (fstat(client->file, &found) != 0) return tt_refuse(client, TT_NO_FILE, errno);
-    if (!S_ISREG(found.st_mode) || found.st_size != TT_BYTES) return tt_refuse(client, TT_OTHER_FILE, TT_FILE_KIND);
-    if (found.st_uid != owner) return tt_refuse(client, TT_OTHER_FILE, TT_FILE_OWNER);
-    if ((found.st_mode & (S_IWGRP | S_IWOTH)) != 0) return tt_refuse(client, TT_OTHER_FILE, TT_FILE_WRITABLE);
-    if (!tt_pread(client->file, head, sizeof head, 0)) return tt_refuse(client, TT_NO_FILE, errno);
+    if (fstat(file, found) != 0) return tt_refuse(cause, TT_NO_FILE, errno);
+    if (!S_ISREG(found->st_mode) || found->st_size != TT_BYTES) return tt_refuse(cause, TT_OTHER_FILE, TT_FILE_KIND);
+    if (found->st_uid != owner) return tt_refuse(cause, TT_OTHER_FILE, TT_FILE_OWNER);
+    if ((found->st_mode & (S_IWGRP | S_IWOTH)) != 0) return tt_refuse(cause, TT_OTHER_FILE, TT_FILE_WRITABLE);
+    if (!tt_pread(file, head, sizeof head, 0)) return tt_refuse(cause, TT_NO_FILE, errno);
     /* The format, the length, and the clock: 1 is CLOCK_MONOTONIC. The boot has 36 letters, and 4 zeros follow. */
     if (memcmp(head, "TTS2\x40\1\0\0\1\0\0\0\0\0\0\0", 16) != 0 || memcmp(head + 60, "\0\0\0\0", 4) != 0)
-        return tt_refuse(client, TT_OTHER_FILE, TT_FILE_FORMAT);
-    return tt_is_same_clock(head + 24) ? 0 : tt_refuse(client, TT_OTHER_FILE, TT_FILE_CLOCK);
+        return tt_refuse(cause, TT_OTHER_FILE, TT_FILE_FORMAT);
+    return tt_is_same_clock(head + 24) ? 0 : tt_refuse(cause, TT_OTHER_FILE, TT_FILE_CLOCK);
+}
+
+/* Opens the file at this path, where it is such a file. Refuses with 1701 and 1702. */
+static inline int tt_open_file(const char *path, uid_t owner, int *file, struct stat *found, int *cause) {
+    *file = open(path, O_RDONLY | O_CLOEXEC | O_NOFOLLOW | O_NONBLOCK);
+    if (*file < 0) return tt_refuse(cause, TT_NO_FILE, errno);
+    int refused = tt_check_file(*file, owner, found, cause);
+    if (refused != 0) close(*file);
+    return refused;
+}
+
+/* The place of a file at this path, which is kept as one from the root; NULL where memory ran out. */
+static inline tt_place *tt_place_of(const char *path, uid_t owner, const struct stat *found) {
+    tt_place *place = (tt_place *)calloc(1, sizeof *place);
+    char here[4096] = "";
+    if (*path != '/' && getcwd(here, sizeof here) == NULL) *here = '\0';
+    size_t length = strlen(here) + strlen(path) + 2;
+    char *whole = (char *)malloc(length);
+    if (place == NULL || whole == NULL) {
+        free(place);
+        free(whole);
+        errno = ENOMEM;
+        return NULL;
+    }
+    snprintf(whole, length, "%s%s%s", here, *here == '\0' ? "" : "/", path);
+    place->files[0] = place->files[1] = -1;
+    place->owner = owner;
+    place->device = found->st_dev;
+    place->inode = found->st_ino;
+    place->path = whole;
+    return place;
 }
 
 /* Opens the file at this path, to be read at each call. Refuses with 1701 and 1702; then the client is not open. */
 static inline int tt_open_unmapped(tt_client *client, const char *path, uid_t owner) {
-    client->words = NULL;
-    client->is_unmapped = false;
-    client->refused = client->cause = 0;
-    client->file = open(path, O_RDONLY | O_CLOEXEC | O_NOFOLLOW | O_NONBLOCK);
-    if (client->file < 0) return tt_refuse(client, TT_NO_FILE, errno);
-    int refused = tt_check_file(client, owner);
-    client->is_unmapped = refused == 0;
-    if (refused != 0) close(client->file);
-    return refused;
+    struct stat found;
+    int file;
+    client->pages = NULL;
+    client->place = NULL;
+    client->max_width_ns = UINT64_MAX;
+    client->cause = 0;
+    client->refused = tt_open_file(path, owner, &file, &found, &client->cause);
+    if (client->refused != 0) return client->refused;
+    client->place = tt_place_of(path, owner, &found);
+    if (client->place == NULL) {
+        client->refused = tt_refuse(&client->cause, TT_NO_FILE, errno);
+        close(file);
+        return client->refused;
+    }
+    client->place->files[0] = file;
+    return 0;
+}
+
+/* Maps a file at this place in memory, in place of what is there. What is read of it is the file's, or the old one's. */
+static inline bool tt_map_at(const char *page, int file) {
+    int kind = file < 0 ? MAP_PRIVATE | TT_ANONYMOUS : MAP_SHARED;
+    return mmap((void *)(uintptr_t)page, TT_BYTES, PROT_READ, kind | MAP_FIXED, file, 0) != MAP_FAILED;
+}
+
+/* Unmaps or closes the file. A client that is not open stays so. No other thread may be in a call. */
+static inline void tt_close(tt_client *client) {
+    if (client->pages != NULL) munmap((void *)(uintptr_t)client->pages, 2 * TT_APART);
+    for (int turn = 0; client->place != NULL && turn < 2; turn++)
+        if (client->place->files[turn] >= 0) close(client->place->files[turn]);
+    if (client->place != NULL) free(client->place->path);
+    free(client->place);
+    client->pages = NULL;
+    client->place = NULL;
 }
 
 /* Maps the file at this path. Refuses with 1701 and 1702; then the client is not open. */
 static inline int tt_open(tt_client *client, const char *path, uid_t owner) {
     int refused = tt_open_unmapped(client, path, owner);
     if (refused != 0) return refused;
-    void *mapped = mmap(NULL, TT_BYTES, PROT_READ, MAP_SHARED, client->file, 0);
-    int error = errno;
-    close(client->file);
-    client->is_unmapped = false;
-    if (mapped == MAP_FAILED) return tt_refuse(client, TT_NO_FILE, error);
-    client->words = (const uint64_t *)mapped;
+    void *pages = mmap(NULL, 2 * TT_APART, PROT_READ, MAP_PRIVATE | TT_ANONYMOUS, -1, 0);
+    if (pages != MAP_FAILED) client->pages = (const char *)pages;
+    if (client->pages == NULL || !tt_map_at(client->pages, client->place->files[0])) {
+        client->refused = tt_refuse(&client->cause, TT_NO_FILE, errno);
+        tt_close(client);
+        return client->refused;
+    }
+    close(client->place->files[0]);
+    client->place->files[0] = -1;
     return 0;
-}
-
-/* Unmaps or closes the file. A client that is not open stays so. */
-static inline void tt_close(tt_client *client) {
-    if (client->words != NULL) munmap((void *)(uintptr_t)client->words, TT_BYTES);
-    if (client->is_unmapped) close(client->file);
-    client->words = NULL;
-    client->is_unmapped = false;
 }
 
 /* The word at which the slot begins that is current at this index. The publication's count is odd where an odd number of
@@ -239,20 +320,40 @@ TT_INLINE void tt_load_slot(const uint64_t *words, tt_slot *slot) {
 /* Copies the slot of the index that is shown. Refuses with 1704 where the copy may not be whole. It is whole where the
  * index is the same before and after: a publication changes the index before the next one writes into this slot, and no
  * index comes twice, so no byte of the slot has changed in between. The loads stay in their order, since each one is an
- * acquire. */
+ * acquire. Where the turn is the same, too, all of it is of one file: nothing is mapped over the page of a turn while that
+ * lasts. */
 TT_INLINE int tt_copy(const tt_client *client, uint64_t *index, tt_slot *slot) {
-    *index = tt_load(client->words + TT_INDEX_WORD);
-    tt_load_slot(client->words + tt_slot_of(*index), slot);
-    return tt_load(client->words + TT_INDEX_WORD) == *index ? 0 : TT_BUSY;
+    uint64_t turn = tt_load(&client->place->turn);
+    const uint64_t *words = (const uint64_t *)(const void *)(client->pages + (turn & 1) * TT_APART);
+    *index = tt_load(words + TT_INDEX_WORD);
+    tt_load_slot(words + tt_slot_of(*index), slot);
+    return tt_load(words + TT_INDEX_WORD) == *index && tt_load(&client->place->turn) == turn ? 0 : TT_BUSY;
+}
+
+/* The turn of a file that is not mapped. Its descriptor stays as it is until tt_leave_file. */
+static inline uint64_t tt_enter_file(tt_place *place) {
+    for (;;) {
+        uint64_t turn = __atomic_load_n(&place->turn, __ATOMIC_SEQ_CST);
+        __atomic_fetch_add(&place->users[turn & 1], 1, __ATOMIC_SEQ_CST);
+        if (__atomic_load_n(&place->turn, __ATOMIC_SEQ_CST) == turn) return turn;
+        __atomic_fetch_sub(&place->users[turn & 1], 1, __ATOMIC_SEQ_CST);
+    }
+}
+
+static inline void tt_leave_file(tt_place *place, uint64_t turn) {
+    __atomic_fetch_sub(&place->users[turn & 1], 1, __ATOMIC_SEQ_CST);
 }
 
 /* The same of a file that is not mapped. Refuses with 1701, too: it is not open, cannot be read, or has become shorter. */
 static inline int tt_copy_unmapped(const tt_client *client, uint64_t *index, tt_slot *slot) {
     uint64_t before, after, words[TT_SLOT_WORDS];
-    if (!client->is_unmapped || !tt_pread(client->file, &before, 8, 8 * TT_INDEX_WORD) ||
-        !tt_pread(client->file, words, sizeof words, 8 * tt_slot_of(before)) ||
-        !tt_pread(client->file, &after, 8, 8 * TT_INDEX_WORD))
-        return TT_NO_FILE;
+    if (client->place == NULL) return TT_NO_FILE;
+    uint64_t turn = tt_enter_file(client->place);
+    int file = client->place->files[turn & 1];
+    bool is_read = tt_pread(file, &before, 8, 8 * TT_INDEX_WORD) && tt_pread(file, words, sizeof words, 8 * tt_slot_of(before)) &&
+                   tt_pread(file, &after, 8, 8 * TT_INDEX_WORD);
+    tt_leave_file(client->place, turn);
+    if (!is_read) return TT_NO_FILE;
     tt_load_slot(words, slot);
     *index = before;
     return after == before ? 0 : TT_BUSY;
@@ -291,11 +392,11 @@ __attribute__((cold, noinline, unused)) static int tt_read_unmapped(const tt_cli
     return TT_BUSY;
 }
 
-/* The last publication. Refuses with 1701, 801, 1704 and 1703, and then with 801 where nothing is published any more. */
-TT_INLINE int tt_read(const tt_client *client, tt_publication *published) {
+/* tt_read by the file that is open. */
+TT_INLINE int tt_read_once(const tt_client *client, tt_publication *published) {
     uint64_t index;
     tt_slot slot;
-    if (tt_rarely(client->words == NULL)) {
+    if (tt_rarely(client->pages == NULL)) {
         tt_publication there; /* no pointer to `published` leaves this function, so it may stay in registers */
         int refused = tt_read_unmapped(client, &there);
         if (refused == 0) *published = there;
@@ -339,21 +440,95 @@ TT_INLINE int tt_clock(uint64_t *clock_ns) {
     return 0;
 }
 
-/* The time now. The clock is read after the publication, so it is not below that of the publication. Refuses with
- * 1701, 801, 1704, 1703, 803, 802 and 1708; the reading is then the interval of all times, and not fresh. */
-static inline int tt_now(const tt_client *client, tt_reading *reading) {
+/* Takes this file in place of the one that is read. The old one is unmapped or closed once no thread reads it. */
+static inline bool tt_replace(const tt_client *client, int file) {
+    tt_place *place = client->place;
+    uint64_t turn = tt_load(&place->turn);
+    size_t old = turn & 1, next = 1 - old;
+    if (client->pages != NULL) {
+        bool is_mapped = tt_map_at(client->pages + next * TT_APART, file);
+        close(file);
+        if (!is_mapped) return false;
+        __atomic_store_n(&place->turn, turn + 1, __ATOMIC_SEQ_CST);
+        (void)tt_map_at(client->pages + old * TT_APART, -1); /* who still reads there sees the turn, and reads again */
+        return true;
+    }
+    if (__atomic_load_n(&place->users[next], __ATOMIC_SEQ_CST) != 0) {
+        close(file); /* one is still in a call that it began two files ago */
+        return false;
+    }
+    if (place->files[next] >= 0) close(place->files[next]);
+    place->files[next] = file;
+    __atomic_store_n(&place->turn, turn + 1, __ATOMIC_SEQ_CST);
+    for (int tries = 0; tries < TT_TRIES && __atomic_load_n(&place->users[old], __ATOMIC_SEQ_CST) != 0; tries++) sched_yield();
+    if (__atomic_load_n(&place->users[old], __ATOMIC_SEQ_CST) == 0) {
+        close(place->files[old]);
+        place->files[old] = -1;
+    }
+    return true;
+}
+
+/* Looks at the path, unless it was looked at within a second, and takes another file that is there, where it passes the checks
+ * of tt_open. Whether it did. */
+__attribute__((cold, noinline, unused)) static bool tt_renew(const tt_client *client) {
+    tt_place *place = client->place;
+    uint64_t now_ns;
+    struct stat found;
+    int file, cause;
+    if (place == NULL || tt_clock(&now_ns) != 0 || now_ns < tt_load(&place->next_look_ns)) return false;
+    if (__atomic_exchange_n(&place->is_looking, true, __ATOMIC_ACQ_REL)) return false;
+    __atomic_store_n(&place->next_look_ns, now_ns + TT_LOOK_NS, __ATOMIC_RELEASE);
+    bool is_other = lstat(place->path, &found) == 0 && (found.st_ino != place->inode || found.st_dev != place->device);
+    bool is_taken = is_other && tt_open_file(place->path, place->owner, &file, &found, &cause) == 0 && tt_replace(client, file);
+    if (is_taken) {
+        place->device = found.st_dev;
+        place->inode = found.st_ino;
+    }
+    __atomic_store_n(&place->is_looking, false, __ATOMIC_RELEASE);
+    return is_taken;
+}
+
+/* The last publication. Refuses with 1701, 801, 1704 and 1703, and then with 801 where nothing is published any more. */
+static inline int tt_read(const tt_client *client, tt_publication *published) {
+    int refused = tt_read_once(client, published);
+    return refused != 0 && tt_renew(client) ? tt_read_once(client, published) : refused;
+}
+
+/* Has readings of an open client that are wider than this refused with 1824, in nanoseconds, and so the stamps by them; the
+ * machine's own max_width need not be set. Call it before other threads use the client. */
+static inline void tt_limit_width(tt_client *client, uint64_t max_width_ns) { client->max_width_ns = max_width_ns; }
+
+/* The reading by the file that is open. Where it is refused, there may be none. */
+TT_INLINE int tt_now_once(const tt_client *client, tt_reading *reading) {
     tt_publication published;
     uint64_t clock_ns = 0;
-    int refused = tt_read(client, &published);
+    int refused = tt_read_once(client, &published);
     if (refused == 0) refused = tt_clock(&clock_ns);
-    if (refused == 0) refused = tt_read_at(&published, clock_ns, reading);
-    if (refused != 0) {
-        reading->earliest_ns = 0;
-        reading->latest_ns = TT_MAX_TIME_NS;
-        reading->epoch = reading->number = 0;
-        reading->fresh = false;
-    }
+    return refused == 0 ? tt_read_at(&published, clock_ns, reading) : refused;
+}
+
+TT_INLINE bool tt_is_narrow(const tt_client *client, const tt_reading *reading) {
+    return reading->latest_ns - reading->earliest_ns <= client->max_width_ns;
+}
+
+/* tt_now where what tt_now_once gave and answered is refused or late: where another file is at the path, it is read. */
+__attribute__((cold, noinline, unused)) static int tt_now_late(const tt_client *client, tt_reading *reading, int refused) {
+    if (tt_renew(client)) refused = tt_now_once(client, reading);
+    if (refused == 0 && !tt_is_narrow(client, reading)) refused = TT_READING_TOO_WIDE;
+    if (refused == 0) return 0;
+    reading->earliest_ns = 0;
+    reading->latest_ns = TT_MAX_TIME_NS;
+    reading->epoch = reading->number = 0;
+    reading->fresh = false;
     return refused;
+}
+
+/* The time now. The clock is read after the publication, so it is not below that of the publication. Refuses with
+ * 1701, 801, 1704, 1703, 803, 802, 1708 and 1824; the reading is then the interval of all times, and not fresh. */
+TT_INLINE int tt_now(const tt_client *client, tt_reading *reading) {
+    int refused = tt_now_once(client, reading);
+    bool is_good = refused == 0 && reading->fresh && tt_is_narrow(client, reading);
+    return tt_rarely(!is_good) ? tt_now_late(client, reading, refused) : 0;
 }
 
 /* Whether time t has surely passed, and whether it has surely not arrived. */

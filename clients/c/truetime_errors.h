@@ -9,6 +9,10 @@
 extern "C" {
 #endif
 
+/* The refusal of readings and sessions: the reading is wider than the machine allows, or than tt_limit_width and
+ * tt_session_limit_width do. */
+enum { TT_READING_TOO_WIDE = 1824 };
+
 /* The words for an answer that is not 0: the number of a refusal, or the negative of an error number. Those of an error number
  * that no session has by itself are strerror's. */
 static inline const char *tt_strerror(int answer) {
@@ -37,7 +41,7 @@ static inline const char *tt_strerror(int answer) {
         case 1821: return "the floor, or the lower end of the lease, is further ahead than the machine allows";
         case 1822: return "the commit is pending no more: its connection broke, or the machine ends";
         case 1823: return "the machine knows that an assumption of the service is broken";
-        case 1824: return "the reading is wider than the machine allows";
+        case 1824: return "the reading is wider than the machine allows, or than max_width of this client";
         case -ECONNRESET: return "the service ended the session; if it had a lease, it has to be set again";
         case -ENOTCONN: return "the session is not open";
         case -EADDRNOTAVAIL: return "the host's name has no address";

@@ -17,7 +17,8 @@
  * before its line was sent, as behind a pause, unless a commit of tt_session_begin is pending or a lease was set. No line is
  * sent a second time by that: the last commit is forgotten. Nor is the lease set again: once tt_session_lease was called,
  * tt_session_begin and tt_session_commit refuse with 903 as long as the connection has no lease. Where the connection failed,
- * lost_number, lost_stamp_ns and lost_lease of the session say what the caller has to make good. A session that was closed, or
+ * lost_number, lost_stamp_ns and lost_lease of the session say what the caller has to make good: look behind each call that
+ * fails, since the next one that does, also where it cannot connect, sets them anew. A session that was closed, or
  * never opened, answers -ENOTCONN. tt_strerror has words for all answers.
  *
  * A session is for one thread, and takes no memory but its own. Needs POSIX and GCC or Clang: C11 or later (-std=gnu11, or
@@ -66,7 +67,7 @@ enum { TT_LONG_WAIT_MS = 1000 };
 /* What an observer of a session is told of. */
 typedef enum tt_session_event {
     TT_CONNECTED_ANEW,    /* the number is 0 */
-    TT_CONNECTION_FAILED, /* the negative of the error number */
+    TT_CONNECTION_FAILED, /* the negative of the error number; not where it could not be made */
     TT_REFUSED,           /* the number of the refusal */
     TT_LONG_WAIT          /* the timestamp of the commit that waits for more than TT_LONG_WAIT_MS; told once for each */
 } tt_session_event;
@@ -81,6 +82,16 @@ enum { TT_LEASE_LOST = 903, TT_COMMIT_PENDING = 1104 };
 /* What the service says, beside TT_COMMIT_PENDING, of the line of a pending commit of which it does not know: a later one has
  * begun, or it is pending no more. */
 enum { TT_COMMIT_PASSED = 1103, TT_COMMIT_GONE = 1822 };
+
+/* What else a caller may want to tell apart of what the service says, beside TT_READING_TOO_WIDE, 1824; tt_strerror has words for all. */
+enum {
+    TT_OUT_OF_MEMORY = 1,
+    TT_TOO_MANY_COMMITS = 1001,
+    TT_ID_USED = 1002,
+    TT_STAMP_USED = 1003,
+    TT_FLOOR_ABOVE_CAP = 1821,
+    TT_BROKEN = 1823
+};
 
 /* The true time lies in [earliest_ns, latest_ns], both ends included. */
 typedef struct tt_interval {
@@ -98,13 +109,14 @@ typedef enum tt_waiter { TT_NOBODY, TT_OF_COMMIT, TT_OF_BEGIN } tt_waiter;
 typedef struct tt_session {
     int socket; /* below 0: not connected */
     int timeout_ms;
+    uint64_t max_width_ns;
     uint64_t number, stamp_ns;   /* the last commit that may have begun, counted from 1, and its timestamp, or 0 */
     tt_commit_state state;
     tt_waiter waiter;
     bool wants_lease, has_lease; /* whether a lease was ever asked for, and whether this connection has one */
     struct sockaddr_un address;  /* where to connect to; large enough for one of TCP, too */
     socklen_t length;            /* of the address; 0: not open */
-    /* What went with the last connection that failed: the commit of tt_session_begin that was pending, 0 where none was, which
+    /* What went with the connection in the last call that failed: the commit of tt_session_begin that was pending, 0 where none was, which
      * is never known as released, so begin it again or give it up; and whether there was a lease, which has to be set again. */
     uint64_t lost_number, lost_stamp_ns;
     bool lost_lease;
@@ -117,6 +129,11 @@ static inline void tt_session_observe(tt_session *session, tt_session_observer *
     session->observer = observer;
     session->observers_own = own;
 }
+
+/* Has readings that are wider than this refused with 1824, in nanoseconds, also where the machine allows them: tt_session_now
+ * looks at each, tt_session_after and tt_session_before compare with one of that, and before a commit begins one is asked for.
+ * The session is open. */
+static inline void tt_session_limit_width(tt_session *session, uint64_t max_width_ns) { session->max_width_ns = max_width_ns; }
 
 static inline void tt_session_tell(const tt_session *session, tt_session_event event, int64_t number) {
     if (session->observer != NULL) session->observer(session->observers_own, event, number);
@@ -144,14 +161,19 @@ static inline bool tt_session_is_pending(const tt_session *session) {
     return session->state == TT_WAITING && session->waiter == TT_OF_BEGIN;
 }
 
-/* Drops a connection that failed. */
-static inline int tt_session_failed(tt_session *session, int error) {
+/* Drops a connection that failed, or could not be made. */
+static inline int tt_session_lost(tt_session *session, int error) {
     bool is_pending = tt_session_is_pending(session);
     session->lost_number = is_pending ? session->number : 0;
     session->lost_stamp_ns = is_pending ? session->stamp_ns : 0;
     session->lost_lease = session->has_lease;
     tt_session_drop(session);
-    int answer = error == EAGAIN || error == EWOULDBLOCK || error == EINPROGRESS ? -ETIMEDOUT : -error;
+    return error == EAGAIN || error == EWOULDBLOCK || error == EINPROGRESS ? -ETIMEDOUT : -error;
+}
+
+/* Drops a connection that failed, and tells so. */
+static inline int tt_session_failed(tt_session *session, int error) {
+    int answer = tt_session_lost(session, error);
     tt_session_tell(session, TT_CONNECTION_FAILED, answer);
     return answer;
 }
@@ -212,9 +234,9 @@ static inline int tt_session_reach_unix(tt_session *session, int64_t give_up_ms)
 static inline int tt_session_connect(tt_session *session, int64_t give_up_ms) {
     bool is_tcp = session->address.sun_family != AF_UNIX;
     session->socket = socket(session->address.sun_family, SOCK_STREAM | SOCK_CLOEXEC | (is_tcp ? SOCK_NONBLOCK : 0), 0);
-    if (session->socket < 0) return tt_session_failed(session, errno);
+    if (session->socket < 0) return tt_session_lost(session, errno);
     int error = is_tcp ? tt_session_reach_tcp(session, give_up_ms) : tt_session_reach_unix(session, give_up_ms);
-    return error == 0 ? 0 : tt_session_failed(session, error);
+    return error == 0 ? 0 : tt_session_lost(session, error);
 }
 
 /* Connects to an address; NULL is none. */
@@ -222,6 +244,7 @@ static inline int tt_session_open(tt_session *session, const void *address, sock
     memset(session, 0, sizeof *session);
     session->socket = -1;
     session->timeout_ms = timeout_ms;
+    session->max_width_ns = UINT64_MAX;
     if (address == NULL || timeout_ms <= 0) return -EINVAL;
     memcpy(&session->address, address, length);
     session->length = length;
@@ -360,24 +383,36 @@ static inline int tt_session_question(tt_session *session, const char *line, cha
     return (int)number;
 }
 
-/* The time now; where it does not answer 0, the interval of all times. */
-static inline int tt_session_now(tt_session *session, tt_interval *now) {
+/* tt_session_now on a connection that was looked at. */
+static inline int tt_session_read(tt_session *session, tt_interval *now) {
     char reply[TT_LINE_BYTES + 1];
     uint64_t numbers[2];
-    now->earliest_ns = 0;
-    now->latest_ns = TT_MAX_TIME_NS;
-    int failed = tt_session_look(session);
-    if (failed == 0) failed = tt_session_question(session, "now", reply);
+    int failed = tt_session_question(session, "now", reply);
     if (failed != 0) return failed;
     if (!tt_is_reply(reply, "now", 2, numbers) || numbers[0] > numbers[1]) return tt_session_failed(session, EPROTO);
+    if (numbers[1] - numbers[0] > session->max_width_ns) return TT_READING_TOO_WIDE;
     now->earliest_ns = numbers[0];
     now->latest_ns = numbers[1];
     return 0;
 }
 
+/* The time now; where it does not answer 0, the interval of all times. */
+static inline int tt_session_now(tt_session *session, tt_interval *now) {
+    now->earliest_ns = 0;
+    now->latest_ns = TT_MAX_TIME_NS;
+    int failed = tt_session_look(session);
+    return failed != 0 ? failed : tt_session_read(session, now);
+}
+
 static inline int tt_session_compare(tt_session *session, const char *word, uint64_t t_ns, bool *is_so) {
     char line[TT_LINE_BYTES + 1], reply[TT_LINE_BYTES + 1];
     *is_so = false;
+    if (session->max_width_ns != UINT64_MAX) {
+        tt_interval now;
+        int refused = tt_session_now(session, &now);
+        *is_so = refused == 0 && (*word == 'a' ? t_ns < now.earliest_ns : t_ns > now.latest_ns);
+        return refused;
+    }
     snprintf(line, sizeof line, "%s %" PRIu64, word, t_ns);
     int failed = tt_session_look(session);
     if (failed == 0) failed = tt_session_question(session, line, reply);
@@ -397,7 +432,8 @@ static inline int tt_session_before(tt_session *session, uint64_t t_ns, bool *is
 }
 
 /* Sets the lease: timestamps of commits that begin from now on lie from lo to hi, both included. Refuses with 101 and 102,
- * and then the lease is what it was. */
+ * and then the lease is what it was; where there was none, tt_session_begin and tt_session_commit refuse with 903 until one is
+ * set. */
 static inline int tt_session_lease(tt_session *session, uint64_t lo_ns, uint64_t hi_ns) {
     char line[TT_LINE_BYTES + 1], reply[TT_LINE_BYTES + 1];
     uint64_t numbers[2];
@@ -487,6 +523,9 @@ static inline int tt_session_start(tt_session *session, uint64_t floor_ns, int64
     int failed = tt_session_look(session);
     if (failed != 0) return failed;
     if (tt_session_is_pending(session)) return TT_COMMIT_PENDING;
+    tt_interval now;
+    if (session->max_width_ns != UINT64_MAX) failed = tt_session_read(session, &now);
+    if (failed != 0) return failed;
     bool is_unsure = session->state == TT_UNSURE;
     session->waiter = TT_NOBODY;
     failed = tt_session_end(session, give_up_ms);

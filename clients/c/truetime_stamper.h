@@ -5,7 +5,8 @@
  *     tt_stamp stamp;
  *     bool is_past;
  *     uid_t owner;
- *     if (tt_uid("truetime", &owner) != 0 || tt_open(&client, "/run/truetime/time", owner) != 0) ...
+ *     if (tt_uid("truetime", &owner) != 0) ...                               the user who has to own the file
+ *     if (tt_open(&client, "/run/truetime/time", owner) != 0) ...            tt_cause(&client) has the reason
  *     if (tt_stamper_open(&stamper, &client, 0, TT_MAX_TIME_NS) != 0) ...    its lease: here the whole of time
  *     if (tt_stamper_stamp(&stamper, 0, &stamp) != 0) ...                    no other stamp of this stamper is the same
  *     ...                                                                    write and commit locally, under stamp.stamp_ns

@@ -6,12 +6,14 @@
  *     probe open PATH          `published CLOCK LO HI VALID_UNTIL USABLE_UNTIL EPOCH NUMBER DRIFT` of the file, or `refused N`
  *     probe files < LINES      for each line `open PATH` the same of a file that is not mapped, and for `again` of that file now
  *     probe session < CALLS    for each call of a session, what it gives, `refused N`, `timed out`, `invalid` or `failed`.
- *                              The calls are `open tcp PORT MILLISECONDS`, `open unix PATH MILLISECONDS`, `now`, `after T`,
+ *                              The calls are `open tcp PORT MILLISECONDS [MAX_WIDTH]`, `open unix PATH MILLISECONDS
+ *                              [MAX_WIDTH]`, `now`, `after T`,
  *                              `before T`, `lease LO HI`, `begin FLOOR`, `wait`, `commit FLOOR`, `ask LINE`, `close`;
  *                              `signal`, so that a signal comes 20 ms later; and `told`, the words for the last error
  *     probe stamper < LINES    for each line what a stamper says; tools/suites/clients_of_stampers.py has the lines
  *     probe pending < LINES    for each line what a table says; tools/suites/clients_of_pending.py has the lines
  *     probe openings < LINES   for each line what was opened or closed; tools/suites/clients_of_openings.py has the lines
+ *     probe renewals < LINES   for each line what a reader says; tools/suites/clients_of_renewals.py has the lines
  */
 #include "../truetime_session.h"
 
@@ -84,10 +86,16 @@ static int try_files(void) {
 
 static int open_session(tt_session *session, const char *address) {
     char kind[5], where[108];
-    int timeout_ms;
-    if (sscanf(address, "%4s %107s %d", kind, where, &timeout_ms) != 3) return -EINVAL;
-    if (strcmp(kind, "unix") == 0) return tt_session_open_unix(session, where, timeout_ms);
-    return tt_session_open_tcp(session, "127.0.0.1", (uint16_t)strtoul(where, NULL, 10), timeout_ms);
+    int timeout_ms, failed;
+    uint64_t max_width_ns;
+    int words = sscanf(address, "%4s %107s %d %" SCNu64, kind, where, &timeout_ms, &max_width_ns);
+    if (words < 3) return -EINVAL;
+    if (strcmp(kind, "unix") == 0)
+        failed = tt_session_open_unix(session, where, timeout_ms);
+    else
+        failed = tt_session_open_tcp(session, "127.0.0.1", (uint16_t)strtoul(where, NULL, 10), timeout_ms);
+    if (failed == 0 && words == 4) tt_session_limit_width(session, max_width_ns);
+    return failed;
 }
 
 /* Makes a call, and prints what it gives into `said`. One that does not answer 0 counts as 0 where what it gives tells a
@@ -186,14 +194,14 @@ static int try_sessions(void) {
     return 0;
 }
 
-/* The stamp of a stamper that gave `last` last, or none where that is 0. Its next stamp has to be above this one, and the same
- * as before where it was refused. */
-static void print_row(uint64_t last, const tt_reading *reading, uint64_t floor_ns, uint64_t lease_lo_ns, uint64_t lease_hi_ns) {
+/* The stamp of a stamper that gave `last` last, or none where that is 0, with these limits: how far a floor may be ahead, and the grid.
+ * Its next stamp has to be above this one, and the same as before where it was refused. */
+static void print_row(uint64_t last, const tt_reading *reading, uint64_t floor_ns, const uint64_t *lease, const uint64_t *limits) {
     tt_stamper stamper;
     uint64_t stamp_ns = 0, free_ns = last == 0 ? 0 : last + 1;
-    int refused = tt_stamper_open(&stamper, NULL, lease_lo_ns, lease_hi_ns);
+    int refused = tt_stamper_open(&stamper, NULL, lease[0], lease[1]);
     stamper.least_free_ns = free_ns;
-    tt_stamper_limit(&stamper, TT_MAX_AHEAD_NS, 1);
+    tt_stamper_limit(&stamper, limits[0], limits[1]);
     if (refused == 0) refused = tt_stamper_stamp_at(&stamper, reading, floor_ns, &stamp_ns);
     if (stamper.least_free_ns != (refused == 0 ? stamp_ns + 1 : free_ns) || (refused != 0 && stamp_ns != 0))
         puts("wrong");
@@ -318,16 +326,17 @@ static int try_stampers(void) {
     tt_stamper stamper;
     tt_reading reading;
     char line[512], path[256];
-    uint64_t last, floor_ns, lo_ns, hi_ns, lease[2];
+    uint64_t last, floor_ns, lease[2];
     memset(&client, 0, sizeof client);
     memset(&reading, 0, sizeof reading);
     tt_stamper_open(&stamper, &client, 0, TT_MAX_TIME_NS);
     while (fgets(line, sizeof line, stdin) != NULL) {
-        if (sscanf(line, "row %" SCNu64 "%" SCNu64 "%" SCNu64 "%" SCNu64 "%" SCNu64 "%" SCNu64, &last, &reading.earliest_ns,
-                   &reading.latest_ns, &floor_ns, &lo_ns, &hi_ns) == 6)
-            print_row(last, &reading, floor_ns, lo_ns, hi_ns);
+        uint64_t limits[2] = {TT_MAX_AHEAD_NS, 1};
+        if (sscanf(line, "row %" SCNu64 "%" SCNu64 "%" SCNu64 "%" SCNu64 "%" SCNu64 "%" SCNu64 "%" SCNu64 "%" SCNu64, &last,
+                   &reading.earliest_ns, &reading.latest_ns, &floor_ns, lease, lease + 1, limits, limits + 1) >= 6)
+            print_row(last, &reading, floor_ns, lease, limits);
         else if (strncmp(line, "open ", 5) == 0) {
-            uint64_t limits[2] = {0, 0};
+            limits[0] = limits[1] = 0;
             if (sscanf(line, "open %255s%" SCNu64 "%" SCNu64 "%" SCNu64 "%" SCNu64, path, lease, lease + 1, limits, limits + 1) >= 3)
                 open_stamper(&client, &stamper, path, lease, limits);
         } else
@@ -537,6 +546,93 @@ static int try_openings(void) {
     return 0;
 }
 
+/* A thread that reads again and again. The epoch of a file is below 64, and how wide its readings are. */
+typedef struct rereading {
+    pthread_t thread;
+    const tt_client *client;
+    bool *is_over;
+    uint64_t epochs, torn, refused; /* a bit for each epoch that was seen */
+} rereading;
+
+static void *reread(void *given) {
+    rereading *me = (rereading *)given;
+    tt_reading now;
+    while (!__atomic_load_n(me->is_over, __ATOMIC_ACQUIRE)) {
+        bool is_refused = tt_now(me->client, &now) != 0;
+        me->refused += is_refused;
+        if (is_refused) continue;
+        me->torn += now.latest_ns - now.earliest_ns != now.epoch;
+        me->epochs |= UINT64_C(1) << (now.epoch & 63);
+    }
+    return NULL;
+}
+
+/* Ends all threads, and prints what they saw. */
+static void end_rereading(rereading *all, unsigned number, bool *is_over) {
+    uint64_t epochs = 0, torn = 0, refused = 0;
+    __atomic_store_n(is_over, true, __ATOMIC_RELEASE);
+    for (unsigned i = 0; i < number; i++) {
+        pthread_join(all[i].thread, NULL);
+        epochs |= all[i].epochs, torn += all[i].torn, refused += all[i].refused;
+    }
+    for (unsigned epoch = 0; epoch < 64; epoch++)
+        if ((epochs >> epoch & 1) != 0) printf("%u ", epoch);
+    printf("seen, %" PRIu64 " torn, %" PRIu64 " refused\n", torn, refused);
+}
+
+static void print_now(const tt_client *client) {
+    tt_reading now;
+    int refused = tt_now(client, &now);
+    if (refused != 0)
+        printf("refused %d\n", refused);
+    else
+        printf("%" PRIu64 " %" PRIu64 " %s\n", now.epoch, now.latest_ns - now.earliest_ns, now.fresh ? "fresh" : "stale");
+}
+
+static int try_renewals(void) {
+    enum { MOST = 32 };
+    rereading all[MOST];
+    tt_client client;
+    tt_stamper stamper;
+    tt_stamp stamp;
+    uint64_t max_width_ns;
+    char line[512], kind[9], path[256];
+    unsigned number = 0;
+    bool is_over = false;
+    memset(&client, 0, sizeof client);
+    while (fgets(line, sizeof line, stdin) != NULL) {
+        int words = sscanf(line, "open %8s %255s %" SCNu64, kind, path, &max_width_ns);
+        if (words >= 2) {
+            tt_close(&client);
+            int refused = (strcmp(kind, "mapped") == 0 ? tt_open : tt_open_unmapped)(&client, path, geteuid());
+            if (refused == 0 && words == 3) tt_limit_width(&client, max_width_ns);
+            tt_stamper_open(&stamper, &client, 0, TT_MAX_TIME_NS);
+            refused == 0 ? puts("open") : printf("refused %d\n", refused);
+        } else if (strncmp(line, "stamp", 5) == 0) {
+            int refused = tt_stamper_stamp(&stamper, 0, &stamp);
+            refused == 0 ? printf("%" PRIu64 "\n", stamp.stamp_ns) : printf("refused %d\n", refused);
+        } else if (sscanf(line, "threads %u", &number) == 1 && number <= MOST) {
+            is_over = false;
+            for (unsigned i = 0; i < number; i++) {
+                memset(&all[i], 0, sizeof all[i]);
+                all[i].client = &client, all[i].is_over = &is_over;
+                pthread_create(&all[i].thread, NULL, reread, &all[i]);
+            }
+            puts("started");
+        } else if (strncmp(line, "end", 3) == 0) {
+            end_rereading(all, number, &is_over);
+        } else if (strncmp(line, "now", 3) == 0) {
+            print_now(&client);
+        } else {
+            if (strncmp(line, "close", 5) == 0) tt_close(&client);
+            puts(strncmp(line, "close", 5) == 0 ? "closed" : "rested");
+        }
+        fflush(stdout);
+    }
+    tt_close(&client);
+    return 0;
+}
+
 int main(int count, char **words) {
     if (count == 2 && strcmp(words[1], "vectors") == 0) return try_vectors();
     if (count == 3 && strcmp(words[1], "open") == 0) return try_file(words[2]);
@@ -545,6 +641,8 @@ int main(int count, char **words) {
     if (count == 2 && strcmp(words[1], "stamper") == 0) return try_stampers();
     if (count == 2 && strcmp(words[1], "pending") == 0) return try_tables();
     if (count == 2 && strcmp(words[1], "openings") == 0) return try_openings();
-    fprintf(stderr, "usage: probe vectors | probe open PATH | probe files | probe session | probe stamper | probe pending | probe openings\n");
+    if (count == 2 && strcmp(words[1], "renewals") == 0) return try_renewals();
+    fprintf(stderr, "usage: probe vectors | probe open PATH | probe files | probe session | probe stamper | probe pending | probe openings |"
+                    " probe renewals\n");
     return 2;
 }

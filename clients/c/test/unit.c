@@ -206,7 +206,16 @@ static void try_sessions(void) {
     check(tt_session_open_tcp(&session, too_long, port, 1000) == -EADDRNOTAVAIL, "a name without an address");
     check(tt_session_now(&session, &now) == -ENOTCONN, "one that was not opened");
     check(tt_session_open_tcp(&session, "127.0.0.1", port, 0) == -EINVAL, "no time");
+    /* Of a connection that could not be made an observer is not told. */
+    check(tt_session_open_tcp(&session, "127.0.0.1", port, 10000) == 0 && tt_session_before(&session, 1, &is_so) == 801, "a session");
     shutdown(listener, SHUT_RDWR);
+    told[0] = '\0';
+    tt_session_observe(&session, tell, told);
+    check(tt_session_now(&session, &now) == -ECONNRESET, "the end");
+    for (int turn = 0; turn < 3; turn++) check(tt_session_now(&session, &now) == -ECONNREFUSED, "nobody listens");
+    snprintf(wanted, sizeof wanted, "%d %d\n", TT_CONNECTION_FAILED, -ECONNRESET);
+    check(strcmp(told, wanted) == 0, told);
+    tt_session_close(&session);
     pthread_join(thread, NULL);
     close(listener);
 }

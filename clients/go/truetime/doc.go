@@ -30,8 +30,8 @@
 // # Errors
 //
 // A [Refusal] has a number, and comes from the service or from the file; the session goes on after it. A [PendingError] is one
-// of the session itself: Wait was not called for a commit of Begin. A [BrokenError] says that the connection failed; the next
-// call connects anew. The error of a context that ended leaves the session as it is: see [Session].
+// of the session itself: Wait was not called for a commit of Begin. A [BrokenError] says that the connection failed, also of [Dial]
+// and of a [Pool] that dials; the next call connects anew. The error of a context that ended leaves the session as it is: see [Session].
 //
 // # Build tags
 //

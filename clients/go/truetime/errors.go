@@ -35,7 +35,7 @@ const (
 	FloorAboveCap  Refusal = 1821 // the floor, or the lower end of the lease, is further ahead than the machine allows
 	CommitGone     Refusal = 1822 // the commit is pending no more: its connection broke, or the machine ends
 	Broken         Refusal = 1823 // the machine knows that an assumption of the service is broken
-	ReadingTooWide Refusal = 1824 // the reading is wider than the machine allows
+	ReadingTooWide Refusal = 1824 // the reading is wider than the machine allows, or than max_width of this client
 )
 
 var meanings = map[Refusal]string{
@@ -63,7 +63,7 @@ var meanings = map[Refusal]string{
 	FloorAboveCap:  "the floor, or the lower end of the lease, is further ahead than the machine allows",
 	CommitGone:     "the commit is pending no more: its connection broke, or the machine ends",
 	Broken:         "the machine knows that an assumption of the service is broken",
-	ReadingTooWide: "the reading is wider than the machine allows",
+	ReadingTooWide: "the reading is wider than the machine allows, or than max_width of this client",
 }
 
 func (r Refusal) Error() string {
@@ -152,7 +152,7 @@ func (p *PendingError) Error() string {
 // Unwrap gives CommitPending.
 func (p *PendingError) Unwrap() error { return CommitPending }
 
-// A BrokenError says that the connection failed, and why: os.ErrDeadlineExceeded where no reply came in time,
+// A BrokenError says that the connection failed, or could not be made, and why: os.ErrDeadlineExceeded where no reply came in time,
 // io.ErrUnexpectedEOF where the service ended the session, ErrReply where what came is no reply, net.ErrClosed where the
 // session was closed by Close, or another error of the connection. If it failed within Begin or Commit, the commit may have
 // begun: begin another one. The next call connects anew.

@@ -57,6 +57,7 @@ const (
 type Session struct {
 	network, address string
 	timeout          atomic.Int64
+	maxWidth         atomic.Int64
 	logger           atomic.Pointer[Logger]
 	turn             chan struct{} // full while a call is under way
 	closed           chan struct{}
@@ -99,7 +100,8 @@ type commit struct {
 }
 
 // Dial connects to the service. The network is "tcp" (an address as "127.0.0.1:5601") or "unix" (a path). Close the session
-// in the end: each connection keeps a goroutine.
+// in the end: each connection keeps a goroutine. It fails with a BrokenError that has the error of package net, or with that of the
+// context, and where there is no such network with net.UnknownNetworkError.
 func Dial(ctx context.Context, network, address string) (*Session, error) {
 	switch network {
 	case "tcp", "tcp4", "tcp6", "unix":
@@ -108,8 +110,15 @@ func Dial(ctx context.Context, network, address string) (*Session, error) {
 	}
 	s := &Session{network: network, address: address, turn: make(chan struct{}, 1), closed: make(chan struct{})}
 	s.SetTimeout(Timeout)
+	s.maxWidth.Store(MaxTime)
 	if _, err := s.connect(ctx); err != nil {
-		return nil, err
+		if ctx.Err() != nil {
+			return nil, ctx.Err()
+		}
+		if errors.Is(err, context.DeadlineExceeded) { // which the context may learn later
+			return nil, context.DeadlineExceeded
+		}
+		return nil, &BrokenError{Err: err}
 	}
 	return s, nil
 }
@@ -183,8 +192,15 @@ func (s *Session) isIdle() bool {
 		len(link.replies) == 0 && !hasEnded(link.conn)
 }
 
-// SetTimeout sets how long the reply to a line, and connecting anew, may take; 0 is without end.
+// SetTimeout sets how long the reply to a line, and connecting anew, may take; 0 or less is without end.
 func (s *Session) SetTimeout(timeout time.Duration) { s.timeout.Store(int64(timeout)) }
+
+// SetMaxWidth has readings that are wider than this refused with ReadingTooWide, also where the machine allows them: Now looks at
+// each, After and Before compare with one of Now, and before a commit begins one is asked for.
+func (s *Session) SetMaxWidth(width time.Duration) { s.maxWidth.Store(int64(width)) }
+
+// isLimited says whether it has a greatest width.
+func (s *Session) isLimited() bool { return s.maxWidth.Load() < MaxTime }
 
 // Close ends the session for good, and a call that is under way, which fails. A commit that is not released then is never
 // known as released.
@@ -211,15 +227,24 @@ func (l *link) close() error {
 // Now gives the time now.
 func (s *Session) Now(ctx context.Context) (Interval, error) {
 	now := allTimes
-	err := s.inTurn(ctx, func() error {
-		reply, err := s.question(ctx, "now", isInterval)
-		if err == nil {
-			numbers, _ := numbersBehind(reply, "now", 2)
-			now = Interval{numbers[0], numbers[1]}
-		}
+	err := s.inTurn(ctx, func() (err error) {
+		now, err = s.now(ctx)
 		return err
 	})
 	return now, err
+}
+
+// now is Now of the call whose turn it is.
+func (s *Session) now(ctx context.Context) (Interval, error) {
+	reply, err := s.question(ctx, "now", isInterval)
+	if err != nil {
+		return allTimes, err
+	}
+	numbers, _ := numbersBehind(reply, "now", 2)
+	if numbers[1]-numbers[0] > s.maxWidth.Load() {
+		return allTimes, ReadingTooWide
+	}
+	return Interval{numbers[0], numbers[1]}, nil
 }
 
 // After says whether time t has surely passed. It fails with ErrNegative.
@@ -238,6 +263,11 @@ func (s *Session) compare(ctx context.Context, word string, t int64) (bool, erro
 	}
 	isSo, line := false, lineOf(word, t)
 	err := s.inTurn(ctx, func() error {
+		if s.isLimited() {
+			now, err := s.now(ctx)
+			isSo = word == "after" && now.After(t) || word == "before" && now.Before(t)
+			return err
+		}
 		reply, err := s.question(ctx, line, isYesOrNo)
 		isSo = reply == "yes"
 		return err
@@ -286,7 +316,8 @@ func (s *Session) Commit(ctx context.Context, floor int64) (stamp int64, err err
 }
 
 // Lease sets the lease of this session: the timestamps of commits that begin from now on lie from lo to hi, both included.
-// After a refusal, or ErrNegative, the lease is what it was.
+// After a refusal, or ErrNegative, the lease is what it was; where there was none, Begin and Commit refuse with LeaseOver until one is
+// set, also after a refusal.
 func (s *Session) Lease(ctx context.Context, lo, hi int64) error {
 	if lo < 0 || hi < 0 {
 		return ErrNegative
@@ -324,6 +355,11 @@ func (s *Session) begin(ctx context.Context, floor int64) error {
 	}
 	if s.last.isPending && s.last.isGiven {
 		return &PendingError{s.last.number, s.last.stamp}
+	}
+	if s.isLimited() {
+		if _, err := s.now(ctx); err != nil {
+			return err
+		}
 	}
 	s.last.isTold = false
 	if s.last.isPending && s.last.isStamped {

@@ -6,6 +6,8 @@ import (
 	"errors"
 	"fmt"
 	"io"
+	"io/fs"
+	"math"
 	"net"
 	"os"
 	"strings"
@@ -527,13 +529,30 @@ func TestDial(t *testing.T) {
 	if _, err := Dial(always, "udp", "127.0.0.1:1"); err == nil {
 		t.Error("no session over udp")
 	}
-	if _, err := Dial(always, "unix", t.TempDir()+"/nobody"); err == nil {
-		t.Error("nobody listens")
+	var broken *BrokenError
+	var failed *net.OpError
+	_, err := Dial(always, "unix", t.TempDir()+"/nobody")
+	if !errors.As(err, &broken) || !errors.As(err, &failed) || !errors.Is(err, fs.ErrNotExist) {
+		t.Error(err)
+	}
+	pool := NewPool(1, func(ctx context.Context) (*Session, error) { return Dial(ctx, "unix", t.TempDir()+"/nobody") })
+	if _, err := pool.Commit(always, 0); !errors.As(err, &broken) || broken.Commit != 0 || broken.LostLease {
+		t.Error(err)
 	}
 	ctx, cancel := context.WithCancel(always)
 	cancel()
-	if _, err := Dial(ctx, "tcp", "127.0.0.1:1"); !errors.Is(err, context.Canceled) {
+	if _, err := Dial(ctx, "tcp", "127.0.0.1:1"); err != context.Canceled {
 		t.Error(err)
+	}
+}
+
+func TestLongTimeouts(t *testing.T) {
+	for _, timeout := range []time.Duration{math.MaxInt64, -1, 0} {
+		session := dialStandIn(t, func(s *standIn) { s.answer("after 1", "yes") })
+		session.SetTimeout(timeout)
+		if is, err := session.After(always, 1); !is || err != nil {
+			t.Error(timeout, is, err)
+		}
 	}
 }
 

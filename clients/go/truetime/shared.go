@@ -11,8 +11,10 @@ import (
 	"runtime"
 	"strconv"
 	"strings"
+	"sync"
 	"sync/atomic"
 	"syscall"
+	"time"
 	"unsafe"
 )
 
@@ -25,15 +27,31 @@ const (
 	usedWords = 9 // zeros follow
 	tries     = 1000
 	lowBits   = 0x0101_0101_0101_0101
+	// The time from one look at the path to the next.
+	lookNanoseconds = 1_000_000_000
 	// The format, the length, and the clock: 1 is CLOCK_MONOTONIC.
 	head = "TTS2\x40\x01\x00\x00\x01\x00\x00\x00\x00\x00\x00\x00"
 )
 
 // A Client reads the time from a file of a daemon. Any number of goroutines may use it.
 type Client struct {
-	mapped    unsafe.Pointer // *mapping: a call of atomic.Pointer's Load is not inlined
-	file      *os.File       // where it is not mapped
-	byRuntime bool           // whether the clock of the runtime is CLOCK_MONOTONIC
+	mapped    unsafe.Pointer          // *mapping: a call of atomic.Pointer's Load is not inlined
+	file      atomic.Pointer[os.File] // where it is not mapped
+	byRuntime bool                    // whether the clock of the runtime is CLOCK_MONOTONIC
+	place     place
+
+	hasMaxWidth bool
+	maxWidth    int64
+}
+
+// A place is where a file is, and which one is read. Who looks at the path, or closes the client, has it locked.
+type place struct {
+	sync.Mutex
+	path     string
+	owner    uint64
+	isMapped bool
+	read     fs.FileInfo // nil where the client is closed
+	nextLook int64       // the clock reading from which on the path may be looked at again
 }
 
 var errClosed = &FileError{NoFile, fs.ErrClosed}
@@ -46,38 +64,83 @@ type mapping struct {
 // Open maps the file at this path, which this user, a name or a number, has to own. It refuses with NoFile and OtherFile, each
 // in a FileError. Where an owner of the file or of its folder truncates the file, a reading ends the process (SIGBUS); one of
 // OpenUnmapped refuses.
-func Open(path, owner string) (*Client, error) {
-	file, err := openFile(path, owner)
+//
+// A call that would refuse, or give a reading that is not Fresh, looks at the path, at most once a second. Where another file is
+// there, as behind a restart, the client opens that by the same rules, and answers by it.
+func Open(path, owner string) (*Client, error) { return open(path, owner, true) }
+
+// OpenUnmapped opens it as Open, and each call reads it, by three system calls.
+func OpenUnmapped(path, owner string) (*Client, error) { return open(path, owner, false) }
+
+func open(path, owner string, isMapped bool) (*Client, error) {
+	uid, err := userOf(owner)
 	if err != nil {
+		return nil, &FileError{OtherFile, err}
+	}
+	// A path that does not begin at the root is one from here, also where the process goes elsewhere.
+	if here, err := os.Getwd(); err == nil && !strings.HasPrefix(path, "/") {
+		path = here + "/" + path
+	}
+	client := &Client{byRuntime: isRuntimeClock()}
+	client.place.path, client.place.owner, client.place.isMapped = path, uid, isMapped
+	if err := client.take(); err != nil {
 		return nil, err
 	}
-	defer file.Close()
-	bytes, err := syscall.Mmap(int(file.Fd()), 0, fileBytes, syscall.PROT_READ, syscall.MAP_SHARED)
-	if err != nil {
-		return nil, &FileError{NoFile, err}
-	}
-	mapped := &mapping{(*[fileWords]uint64)(unsafe.Pointer(&bytes[0]))} // it begins at a page
-	runtime.SetFinalizer(mapped, func(*mapping) { syscall.Munmap(bytes) })
-	client := &Client{byRuntime: isRuntimeClock()}
-	atomic.StorePointer(&client.mapped, unsafe.Pointer(mapped))
 	return client, nil
 }
 
-// OpenUnmapped opens it as Open, and each call reads it, by three system calls.
-func OpenUnmapped(path, owner string) (*Client, error) {
-	file, err := openFile(path, owner)
+// SetMaxWidth has readings that are wider than this refused with ReadingTooWide, and so the timestamps by them; the machine's own
+// max_width need not be set. Call it before other goroutines use the client.
+func (c *Client) SetMaxWidth(width time.Duration) { c.hasMaxWidth, c.maxWidth = true, int64(width) }
+
+// take opens the file at the path, and has it read in place of the one before. That one is closed, or unmapped once no
+// goroutine reads it.
+func (c *Client) take() error {
+	file, found, err := openFile(c.place.path, c.place.owner)
 	if err != nil {
-		return nil, err
+		return err
 	}
-	return &Client{file: file, byRuntime: isRuntimeClock()}, nil
+	if c.place.isMapped {
+		defer file.Close()
+		bytes, err := syscall.Mmap(int(file.Fd()), 0, fileBytes, syscall.PROT_READ, syscall.MAP_SHARED)
+		if err != nil {
+			return &FileError{NoFile, err}
+		}
+		mapped := &mapping{(*[fileWords]uint64)(unsafe.Pointer(&bytes[0]))} // it begins at a page
+		runtime.SetFinalizer(mapped, func(*mapping) { syscall.Munmap(bytes) })
+		atomic.StorePointer(&c.mapped, unsafe.Pointer(mapped))
+	} else if old := c.file.Swap(file); old != nil {
+		old.Close()
+	}
+	c.place.read = found
+	return nil
+}
+
+// isRenewed looks at the path, unless it was looked at within a second, and takes another file that is there, where it passes the
+// checks of Open. It says whether it did.
+func (c *Client) isRenewed() bool {
+	if !c.place.TryLock() {
+		return false
+	}
+	defer c.place.Unlock()
+	now := systemNanotime()
+	if c.place.read == nil || now < c.place.nextLook {
+		return false
+	}
+	c.place.nextLook = now + lookNanoseconds
+	there, err := os.Lstat(c.place.path)
+	return err == nil && !os.SameFile(there, c.place.read) && c.take() == nil
 }
 
 // Close closes the client: later calls refuse with NoFile. It may come while others are in a call; the file is unmapped once
 // none is.
 func (c *Client) Close() error {
+	c.place.Lock()
+	defer c.place.Unlock()
+	c.place.read = nil
 	atomic.StorePointer(&c.mapped, nil)
-	if c.file != nil {
-		return c.file.Close()
+	if file := c.file.Swap(nil); file != nil {
+		return file.Close()
 	}
 	return nil
 }
@@ -86,17 +149,21 @@ func (c *Client) Close() error {
 // more, and with NoFile where the client is closed, or where the file is not mapped and has become shorter.
 func (c *Client) Read() (Publication, error) {
 	var published Publication
-	if err := c.read(&published); err != nil {
+	err := c.read(&published)
+	if err != nil && c.isRenewed() {
+		err = c.read(&published)
+	}
+	if err != nil {
 		return Publication{}, err
 	}
 	return published, nil
 }
 
-// Now gives the time now. It refuses as Read, and with ClockFailed, ClockBack and TooWide.
+// Now gives the time now. It refuses as Read, and with ClockFailed, ClockBack and TooWide, and with ReadingTooWide by SetMaxWidth.
 func (c *Client) Now() (Reading, error) {
 	var published Publication
 	if err := c.read(&published); err != nil {
-		return Reading{Interval: allTimes}, err
+		return c.anew(Reading{Interval: allTimes}, err)
 	}
 	// The clock is read after the publication, so it is not below that of the publication.
 	var now int64
@@ -110,9 +177,24 @@ func (c *Client) Now() (Reading, error) {
 	}
 	clock := uint64(now)
 	if err := published.refusalAt(clock); err != nil {
-		return Reading{Interval: allTimes}, err
+		return c.anew(Reading{Interval: allTimes}, err)
 	}
-	return Reading{published.aged(clock - published.Clock), published.Epoch, published.Number, published.isFreshAt(clock)}, nil
+	reading := Reading{published.aged(clock - published.Clock), published.Epoch, published.Number, published.isFreshAt(clock)}
+	if c.hasMaxWidth && reading.Latest-reading.Earliest > c.maxWidth {
+		return c.anew(Reading{Interval: allTimes}, ReadingTooWide)
+	}
+	if !reading.Fresh {
+		return c.anew(reading, nil)
+	}
+	return reading, nil
+}
+
+// anew gives what Now has found, unless another file is at the path.
+func (c *Client) anew(found Reading, err error) (Reading, error) {
+	if c.isRenewed() {
+		return c.Now()
+	}
+	return found, err
 }
 
 // read is Read into a variable of the caller, which has no publication where it refuses.
@@ -153,12 +235,16 @@ func (c *Client) read(published *Publication) error {
 
 // readUnmapped is read of a file that is not mapped.
 func (c *Client) readUnmapped(published *Publication) error {
-	if c.file == nil {
-		return errClosed
-	}
 	for try := 0; try < tries; try++ {
+		file := c.file.Load()
+		if file == nil {
+			return errClosed
+		}
 		var word [slotWords]uint64
-		index, again, err := copyUnmapped(c.file, &word)
+		index, again, err := copyUnmapped(file, &word)
+		if c.file.Load() != file {
+			continue // it was replaced, and closed
+		}
 		if err != nil {
 			return &FileError{NoFile, err}
 		}
@@ -231,21 +317,23 @@ func readWords(file *os.File, place int, words []uint64) error {
 }
 
 // openFile opens the file at this path, where it is such a file.
-func openFile(path, owner string) (*os.File, error) {
-	uid, err := userOf(owner)
-	if err != nil {
-		return nil, &FileError{OtherFile, err}
-	}
+func openFile(path string, owner uint64) (*os.File, fs.FileInfo, error) {
 	// A FIFO in place of the file does not block the opening.
 	file, err := os.OpenFile(path, os.O_RDONLY|syscall.O_NOFOLLOW|syscall.O_NONBLOCK, 0)
 	if err != nil {
-		return nil, &FileError{NoFile, err}
+		return nil, nil, &FileError{NoFile, err}
 	}
-	if err := checkFile(file, uid); err != nil {
+	found, err := file.Stat()
+	if err != nil {
+		err = &FileError{NoFile, err}
+	} else {
+		err = checkFile(file, found, owner)
+	}
+	if err != nil {
 		file.Close()
-		return nil, err
+		return nil, nil, err
 	}
-	return file, nil
+	return file, found, nil
 }
 
 // userOf gives the number of a user.
@@ -260,11 +348,7 @@ func userOf(owner string) (uint64, error) {
 	return strconv.ParseUint(found.Uid, 10, 32)
 }
 
-func checkFile(file *os.File, owner uint64) error {
-	found, err := file.Stat()
-	if err != nil {
-		return &FileError{NoFile, err}
-	}
+func checkFile(file *os.File, found fs.FileInfo, owner uint64) error {
 	of, ok := found.Sys().(*syscall.Stat_t)
 	switch {
 	case !ok || !found.Mode().IsRegular() || found.Size() != fileBytes:

@@ -2,6 +2,8 @@
 
 package truetime
 
+import "time"
+
 // A Client reads the time from a file of a daemon, on Linux alone, on a little-endian machine of 64 bits.
 type Client struct{ _ int }
 
@@ -13,6 +15,9 @@ func OpenUnmapped(path, owner string) (*Client, error) { return nil, ErrUnsuppor
 
 // Close does nothing on this system.
 func (c *Client) Close() error { return nil }
+
+// SetMaxWidth does nothing on this system.
+func (c *Client) SetMaxWidth(width time.Duration) {}
 
 // Read fails with ErrUnsupported on this system.
 func (c *Client) Read() (Publication, error) { return Publication{}, ErrUnsupported }

@@ -4,9 +4,11 @@ The conversations of both are in tools/suites/clients.py. Run by `python aio_tes
 """
 import asyncio
 import contextlib
+import errno
 import os
 import pathlib
 import socket
+import struct
 import sys
 import tempfile
 import time
@@ -219,6 +221,46 @@ class Tasks(unittest.IsolatedAsyncioTestCase):
             self.assertEqual(await session.now(), Interval(5, 15))
             session._connection.data_received(b"now 1 2\n")
             self.assertEqual(await session.now(), Interval(7, 9))
+
+    async def test_numbers_that_are_no_times(self):
+        async with StandIn([("after 5", "yes\n")]) as (_, session):
+            for call in session.after, session.before, session.begin, session.commit:
+                for wrong, raised in (1.5, TypeError), (-1, ValueError), (2**64, ValueError):
+                    with self.assertRaises(raised):
+                        await call(wrong)
+            self.assertTrue(await session.after(5))
+
+    async def test_paths(self):
+        async def answer(reader, writer):
+            await reader.readline()
+            writer.write(b"yes\n")
+            writer.close()
+
+        with tempfile.TemporaryDirectory() as folder:
+            path = pathlib.Path(folder, "socket")
+            async with await asyncio.start_unix_server(answer, path):
+                for address in path, str(path):
+                    async with aio.Session(address, LIMIT_S) as session:
+                        self.assertTrue(await session.after(5))
+
+    async def test_long_time_outs(self):
+        async with StandIn([("after 5", "yes\n")], []) as (stand_in, session):
+            self.assertTrue(await session.after(5))
+            address = stand_in.server.sockets[0].getsockname()
+            async with aio.Pool(lambda: aio.Session.connect(address, float("inf")), 1, float("inf")) as pool, pool.session() as other:
+                self.assertTrue(other.is_idle)
+
+    async def test_reset(self):
+        async def reset(reader, writer):
+            await reader.readline()
+            writer.get_extra_info("socket").setsockopt(socket.SOL_SOCKET, socket.SO_LINGER, struct.pack("ii", 1, 0))
+            writer.transport.abort()
+
+        server = await asyncio.start_server(reset, "127.0.0.1", 0)
+        async with server, aio.Session(server.sockets[0].getsockname(), LIMIT_S) as session:
+            with self.assertRaises(ConnectionResetError) as raised:
+                await session.now()
+            self.assertEqual(raised.exception.errno, errno.ECONNRESET)
 
     async def test_close(self):
         """Closing ends a call that waits for its reply, and one that waits for its turn; it stays closed."""

@@ -1,9 +1,12 @@
-"""Tests of what is Python's own: owners by name, causes, threads that share a session, and what is logged."""
+"""Tests of what is Python's own: owners by name, causes, numbers that are no times, errors that are pickled, threads that share a session,
+and what is logged."""
 import contextlib
+import copy
 import errno
 import logging
 import os
 import pathlib
+import pickle
 import pwd
 import socketserver
 import struct
@@ -75,6 +78,28 @@ class Files(unittest.TestCase):
                 truetime.Stamper(None, **limits)
         truetime.Stamper(None, ahead_ns=truetime.MAX_AHEAD_NS, grid_ns=truetime.MAX_GRID_NS)
 
+    def test_floats_are_no_times(self):
+        with truetime.Client(self.path, os.geteuid()) as client:
+            self.assertRaises(TypeError, truetime.Stamper, client, 0.0)
+            self.assertRaises(TypeError, truetime.Stamper, client, 0, 1e18)
+            self.assertRaises(TypeError, truetime.Stamper, client, ahead_ns=1e9)
+            self.assertRaises(TypeError, truetime.Stamper, client, grid_ns=1000.0)
+            stamper = truetime.Stamper(client, 1_796_000_000_000_000_000)
+            first = stamper.stamp().stamp_ns
+            for call in (
+                stamper.stamp, stamper.extend, stamper.rise_above, stamper.is_past, stamper.left_ns, stamper.wait_past,
+                truetime.PendingTable(stamper).begin, lambda t_ns: stamper.stamp_at(client.now(), t_ns),
+            ):
+                self.assertRaises(TypeError, call, float(first) + 5e8)
+            self.assertEqual([stamper.stamp().stamp_ns for _ in range(3)], [first + 1, first + 2, first + 3])
+
+    def test_endless_waits(self):
+        with truetime.Client(self.path, os.geteuid()) as client:
+            table = truetime.PendingTable(truetime.Stamper(client))
+            stamp_ns = table.begin()
+            threading.Timer(0.1, table.written, (stamp_ns,)).start()
+            self.assertTrue(table.make_readable(stamp_ns, float("inf")))
+
     def test_a_closed_client_refuses(self):
         for mapped in (True, False):
             client = truetime.Client(self.path, os.geteuid(), mapped)
@@ -83,6 +108,24 @@ class Files(unittest.TestCase):
             with self.assertRaises(truetime.Refused) as caught:
                 client.now()
             self.assertEqual(caught.exception.number, 1701)
+
+
+class Errors(unittest.TestCase):
+    def test_errors_are_pickled(self):
+        for error in (
+            truetime.Refused(1824), truetime.Refused(1702, ": others may write to it"), truetime.CommitPending(3, 77),
+            truetime.SessionLost(ConnectionResetError(104, "reset"), 3, 77, True),
+        ):
+            for again in (copy.copy(error), pickle.loads(pickle.dumps(error)), pickle.loads(pickle.dumps(copy.deepcopy(error)))):
+                self.assertEqual((type(again), str(again), repr(again.__cause__)), (type(error), str(error), repr(error.__cause__)))
+                for name in "number", "commit", "stamp_ns", "had_lease":
+                    self.assertEqual(getattr(again, name, None), getattr(error, name, None))
+
+    def test_refusals_have_names(self):
+        self.assertEqual(truetime.Refused(1824).number, truetime.Refusal.READING_TOO_WIDE)
+        for number in range(1, 65_536):
+            is_named = number in truetime.Refusal.__members__.values()
+            self.assertEqual(str(truetime.Refused(number)).endswith("see docs/FORMATS.md"), not is_named)
 
 
 class Echoing(socketserver.StreamRequestHandler):
@@ -148,6 +191,34 @@ class Sessions(unittest.TestCase):
         self.assertEqual([type(error) for error in failed], [ConnectionError])
         with self.assertRaisesRegex(ConnectionError, "the session is closed"):
             self.session.after(1)
+
+    def test_numbers_that_are_no_times(self):
+        for wrong, raised in (1.5, TypeError), (float(10**18), TypeError), ("5", TypeError), (-1, ValueError), (2**64, ValueError):
+            for call in self.session.after, self.session.before, self.session.begin, self.session.commit:
+                self.assertRaises(raised, call, wrong)
+            self.assertRaises(raised, self.session.lease, wrong, 9)
+            self.assertRaises(raised, self.session.lease, 5, wrong)
+        self.assertFalse(self.server.asked.is_set())
+        self.assertTrue(self.session.is_idle)
+        self.server.releases.set()
+        self.assertEqual(self.session.commit(), 77)
+
+    def test_paths(self):
+        with tempfile.TemporaryDirectory() as folder:
+            path = pathlib.Path(folder, "socket")
+            with socketserver.ThreadingUnixStreamServer(str(path), Echoing) as server:
+                server.daemon_threads, server.block_on_close = True, False
+                threading.Thread(target=server.serve_forever, args=(0.01,), daemon=True).start()
+                for address in path, str(path):
+                    with truetime.Session(address, 10) as session:
+                        self.assertTrue(session.after(5))
+                server.shutdown()
+
+    def test_long_time_outs(self):
+        self.server.releases.set()
+        for timeout_s in 30 * 86_400, 10**12, float("inf"):
+            with truetime.Pool(lambda: truetime.Session(self.server.server_address, timeout_s), 1, timeout_s) as pool:
+                self.assertEqual(pool.commit(), 77)
 
     def test_log(self):
         with self.assertLogs("truetime", logging.DEBUG) as told:

@@ -47,9 +47,9 @@ def try_files(lines):
             print("refused", refused.number, flush=True)
 
 
-def opened(kind, address, timeout_s):
+def opened(kind, address, *words):
     """A session of this kind that is connected."""
-    return kind.connect(address, timeout_s) if kind is aio.Session else kind(address, timeout_s)
+    return kind.connect(address, *words) if kind is aio.Session else kind(address, *words)
 
 
 def call_session(session, name, rest):
@@ -93,8 +93,8 @@ def try_sessions(kind, calls):
             continue
         try:
             if name == "open":
-                network, where, milliseconds = rest.split(" ")
-                given = opened(kind, where if network == "unix" else ("127.0.0.1", int(where)), int(milliseconds) / 1000)
+                network, where, milliseconds, *width = rest.split(" ")
+                given = opened(kind, where if network == "unix" else ("127.0.0.1", int(where)), int(milliseconds) / 1000, *map(int, width))
             else:
                 given = call_session(session, name, rest)
             given = loop.run_until_complete(given) if inspect.isawaitable(given) else given
@@ -107,8 +107,9 @@ def try_sessions(kind, calls):
 
 
 def answer_row(numbers):
-    last, lo, hi, floor, lease_lo, lease_hi = numbers
-    with_last = truetime.Stamper(None, lease_lo, lease_hi, ahead_ns=truetime.MAX_AHEAD_NS)
+    last, lo, hi, floor, lease_lo, lease_hi, *limits = numbers
+    ahead, grid = limits or (truetime.MAX_AHEAD_NS, 1)
+    with_last = truetime.Stamper(None, lease_lo, lease_hi, ahead_ns=ahead, grid_ns=grid)
     with_last._least_free_ns = last + 1 if last else 0
     before = with_last._least_free_ns
     try:
@@ -393,6 +394,60 @@ def try_openings(loop, lines):
         loop.close()
 
 
+class Rereading:
+    """Threads that read again and again, and what they saw."""
+
+    def __init__(self, client, count):
+        self.client, self.over, self.epochs, self.torn, self.refused = client, False, set(), 0, 0
+        self.threads = [threading.Thread(target=self.reread) for _ in range(count)]
+        for thread in self.threads:
+            thread.start()
+
+    def reread(self):
+        while not self.over:
+            try:
+                now = self.client.now()
+            except truetime.Refused:
+                self.refused += 1
+                continue
+            self.epochs.add(now.epoch)
+            self.torn += now.latest_ns - now.earliest_ns != now.epoch
+
+    def end(self):
+        self.over = True
+        for thread in self.threads:
+            thread.join()
+        return " ".join(map(str, sorted(self.epochs))) + f" seen, {self.torn} torn, {self.refused} refused"
+
+
+def try_renewals(lines):
+    client = stamper = running = None
+    for line in lines:
+        name, *words = line.split()
+        said = "rested"
+        try:
+            if name == "open":
+                client = truetime.Client(words[1], os.geteuid(), words[0] == "mapped", *map(int, words[2:]))
+                stamper, said = truetime.Stamper(client), "open"
+            elif name == "stamp":
+                said = stamper.stamp().stamp_ns
+            elif name == "now":
+                now = client.now()
+                said = f"{now.epoch} {now.latest_ns - now.earliest_ns} {'fresh' if now.fresh else 'stale'}"
+            elif name == "threads":
+                running, said = Rereading(client, int(words[0])), "started"
+            elif name == "end":
+                said = running.end()
+            elif name == "close":
+                client.close()
+                said = "closed"
+            else:
+                gc.collect()
+            print(said, flush=True)
+        except truetime.Refused as refused:
+            print("refused", refused.number, flush=True)
+
+
 if sys.argv[1:] == ["vectors"]:
     answer(sys.stdin)
 elif len(sys.argv) == 3 and sys.argv[1] == "open":
@@ -415,6 +470,8 @@ elif sys.argv[1:] == ["openings"]:
     try_openings(None, sys.stdin)
 elif sys.argv[1:] == ["asyncio", "openings"]:
     try_openings(asyncio.new_event_loop(), sys.stdin)
+elif sys.argv[1:] == ["renewals"]:
+    try_renewals(sys.stdin)
 else:
     sys.exit("usage: probe.py vectors | probe.py open PATH | probe.py files | probe.py [asyncio] session | probe.py stamper | probe.py pending | "
-             "probe.py [asyncio] pool | probe.py [asyncio] openings")
+             "probe.py [asyncio] pool | probe.py [asyncio] openings | probe.py renewals")

@@ -16,14 +16,20 @@ Timestamps come from the service itself, over TCP or its Unix socket::
         ...                          # write and commit locally, under this timestamp
         session.wait()               # only now may anybody be told of the commit
 
-:class:`Pool` has sessions for many threads, and :mod:`truetime.aio` all of it for asyncio. What sessions meet is told to the
-logger ``truetime``. Or they are taken in this process, with a lease of their own::
+:class:`Pool` has sessions for many threads, and :mod:`truetime.aio` both for asyncio. What sessions meet is told to the logger
+``truetime``: that they connected at debug, that they did so anew and what is refused at info, that a connection failed and that a
+commit waits for more than a second at warning. Or they are taken in this process, with a lease of their own::
 
     with truetime.Client("/run/truetime/time", owner="truetime") as client:
         stamper = truetime.Stamper(client, lease_lo_ns, lease_hi_ns)
         stamp = stamper.stamp().stamp_ns   # no other stamp of this stamper is the same
         ...                                # write and commit locally, under this timestamp
         stamper.wait_past(stamp)           # only now may anybody be told of the commit
+
+A stamper's waits, and those of a :class:`PendingTable`, block the thread. With asyncio take their steps::
+
+    while left_ns := stamper.left_ns(stamp):
+        await asyncio.sleep(left_ns / 1e9)
 
 Where an owner of the file or of its folder truncates the file, a mapped one raises SIGBUS, which ends Python. With
 ``Client(path, owner, mapped=False)`` a call refuses instead; it makes three system calls more.
@@ -37,7 +43,7 @@ from ._calls import LONG_WAIT_S, TIMEOUT_S, Interval
 from .pending import PendingTable
 from .pools import Pool
 from .readers import MAX_DRIFT_PPM, Client, Publication, Reading
-from .refusals import MAX_TIME_NS, CommitPending, Refused, SessionLost
+from .refusals import MAX_TIME_NS, CommitPending, Refusal, Refused, SessionLost
 from .sessions import Session
 from .stampers import AHEAD_NS, MAX_AHEAD_NS, MAX_GRID_NS, Stamp, Stamper
 
@@ -60,6 +66,7 @@ __all__ = [
     "Pool",
     "Publication",
     "Reading",
+    "Refusal",
     "Refused",
     "Session",
     "SessionLost",

@@ -1,5 +1,7 @@
 """The rules of sessions, which the blocking session and that for asyncio share."""
 import logging
+import operator
+import os
 import re
 import select
 import time
@@ -9,6 +11,8 @@ from .refusals import MAX_TIME_NS, CommitPending, Refused, SessionLost
 
 #: How long a session waits for one reply, and for a commit to be released.
 TIMEOUT_S = 30.0
+#: The longest time-out: the system's waits take no longer one.
+_LONGEST_S = 2_000_000.0
 #: The most bytes of a line and of a reply, without the line feed.
 LINE_BYTES = 64
 #: The pause before a line is sent again.
@@ -28,7 +32,9 @@ _LINE = re.compile("[ -~]{0,64}")
 _NUMBER = re.compile("0|[1-9][0-9]{0,18}")
 
 #: A TCP address, or the path of a Unix socket.
-Address = Union[Tuple[str, int], str]
+Address = Union[Tuple[str, int], str, "os.PathLike[str]"]
+#: The same, where a path is a text.
+Reached = Union[Tuple[str, int], str]
 
 _T = TypeVar("_T")
 #: A call without its connection: it gives a line to send, and is sent its reply, or it gives a pause in seconds, or None where
@@ -46,8 +52,8 @@ class Interval(NamedTuple):
 class Calls:
     """The calls of a session, and what it keeps, without its connection."""
 
-    def __init__(self, timeout_s: float) -> None:
-        self._timeout_s = timeout_s
+    def __init__(self, timeout_s: float, max_width_ns: Optional[int]) -> None:
+        self._timeout_s, self._max_width_ns = at_most(timeout_s), max_width_ns
         # Whether a lease was ever asked for: then no commit begins without one.
         self._wants_lease = False
         self._was_connected = False
@@ -71,7 +77,7 @@ class Calls:
         """Whether a commit is pending whose timestamp a caller has."""
         return self._state == "waiting" and self._is_given and self._told == self._number
 
-    def connected(self, address: Address) -> None:
+    def connected(self, address: Reached) -> None:
         """Tells that a connection was made."""
         if self._was_connected:
             log.info("connected anew to %s", address)
@@ -103,13 +109,20 @@ class Calls:
         _, (earliest_ns, latest_ns) = yield from self._answered("now", {"now": 2})
         if earliest_ns > latest_ns:
             raise not_a_reply("now", f"{earliest_ns} {latest_ns}")
+        if self._max_width_ns is not None and latest_ns - earliest_ns > self._max_width_ns:
+            raise Refused(1824)
         return Interval(earliest_ns, latest_ns)
 
     def compare(self, word: str, t_ns: int) -> "Call[bool]":
+        t_ns = _time(t_ns)
+        if self._max_width_ns is not None:
+            now = yield from self.now()
+            return t_ns < now.earliest_ns if word == "after" else t_ns > now.latest_ns
         said, _ = yield from self._answered(f"{word} {t_ns}", {"yes": 0, "no": 0})
         return said == "yes"
 
     def lease(self, lo_ns: int, hi_ns: int) -> "Call[None]":
+        lo_ns, hi_ns = _time(lo_ns), _time(hi_ns)
         self._wants_lease = True
         line = f"lease {lo_ns} {hi_ns}"
         _, numbers = yield from self._answered(line, {"leased": 2})
@@ -150,8 +163,11 @@ class Calls:
 
     def _begin(self, floor_ns: int, give_up: float) -> "Call[None]":
         """Begins a commit for which a caller may wait."""
+        floor_ns = _time(floor_ns)
         if self._is_kept:
             raise CommitPending(self._number, self._stamp_ns)
+        if self._max_width_ns is not None:
+            yield from self.now()
         self._told, is_unsure = 0, self._state == "unsure"
         yield from self._end(give_up)
         try:
@@ -227,6 +243,24 @@ class Calls:
         if words.get(word) != len(numbers) or any(number > MAX_TIME_NS for number in numbers):
             raise not_a_reply(line, reply)
         return word, numbers
+
+
+def address_of(address: Address) -> Reached:
+    """An address whose path is a text."""
+    return os.fspath(address) if isinstance(address, os.PathLike) else address
+
+
+def at_most(timeout_s: float) -> float:
+    """A time-out as the system's waits take it."""
+    return min(timeout_s, _LONGEST_S)
+
+
+def _time(t_ns: int) -> int:
+    """A time that may be sent: a float is none, since it has no room for one."""
+    t_ns = operator.index(t_ns)
+    if not 0 <= t_ns < 2**64:
+        raise ValueError("a time is from 0 to 2**64 - 1")
+    return t_ns
 
 
 def has_ended(connection: int) -> bool:

@@ -13,7 +13,7 @@ import socket
 import time
 from typing import Any, AsyncIterator, Awaitable, Callable, List, Optional, TypeVar, Union, cast
 
-from ._calls import CONNECT_PAUSE_S, TIMEOUT_S, Address, Call, Calls, Interval, has_ended, log, reply_in
+from ._calls import CONNECT_PAUSE_S, TIMEOUT_S, Address, Call, Calls, Interval, Reached, address_of, at_most, has_ended, log, reply_in
 from .refusals import SessionLost
 
 __all__ = ["Pool", "Session"]
@@ -71,7 +71,12 @@ class _Connection(asyncio.Protocol):
             self._reply.set_result(reply)
 
     def connection_lost(self, exc: Optional[Exception]) -> None:
-        self.end(ConnectionError(f"the connection failed: {exc}" if exc else "the service ended the session"))
+        if isinstance(exc, ConnectionError):
+            self.end(exc)  # as a blocking session raises it
+        else:
+            failed = ConnectionError(f"the connection failed: {exc}" if exc else "the service ended the session")
+            failed.__cause__ = exc
+            self.end(failed)
         if not self.is_lost.done():
             self.is_lost.set_result(None)
 
@@ -91,13 +96,14 @@ class Session:
     - After :meth:`lease`, the lease is the old one or the new one.
     """
 
-    def __init__(self, address: Address, timeout_s: float = TIMEOUT_S) -> None:
+    def __init__(self, address: Address, timeout_s: float = TIMEOUT_S, max_width_ns: Optional[int] = None) -> None:
         """Takes a TCP address, or the path of a Unix socket. ``async with`` connects, or else the first call does.
 
-        ``timeout_s`` is how long connecting, each receiving and the waiting for a release may take.
+        ``timeout_s`` is how long connecting, each receiving and the waiting for a release may take, and ``max_width_ns`` is as in
+        :class:`truetime.Session`.
         """
-        self._address, self._timeout_s = address, timeout_s
-        self._calls = Calls(timeout_s)
+        self._address, self._timeout_s = address_of(address), at_most(timeout_s)
+        self._calls = Calls(timeout_s, max_width_ns)
         self._is_closed = False
         self._turn: Optional[asyncio.Lock] = None
         self._connection: Optional[_Connection] = None
@@ -105,9 +111,9 @@ class Session:
         self._owed: "Optional[tuple[asyncio.Future[Union[str, ConnectionError]], float, Call[Any]]]" = None
 
     @classmethod
-    async def connect(cls, address: Address, timeout_s: float = TIMEOUT_S) -> "Session":
+    async def connect(cls, address: Address, timeout_s: float = TIMEOUT_S, max_width_ns: Optional[int] = None) -> "Session":
         """A session that is connected. Close it in the end."""
-        return await cls(address, timeout_s).__aenter__()
+        return await cls(address, timeout_s, max_width_ns).__aenter__()
 
     async def close(self) -> None:
         """Ends the session for good, and a call that is under way, which fails. A commit that is not released then is never
@@ -264,7 +270,7 @@ class Pool:
         """Takes what gives a session that is connected, as ``lambda: aio.Session.connect(address)``."""
         if size < 1:
             raise ValueError("a pool has one session at least")
-        self._opened, self._size, self._timeout_s = opened, size, timeout_s
+        self._opened, self._size, self._timeout_s = opened, size, at_most(timeout_s)
         self._places: Optional[asyncio.Semaphore] = None
         self._idle: List[Session] = []
         self._is_closed = False
@@ -325,7 +331,7 @@ class Pool:
         return await self._opened()
 
 
-async def _reach(address: Address, connection: _Connection) -> None:
+async def _reach(address: Reached, connection: _Connection) -> None:
     """Connects to the service."""
     loop = asyncio.get_running_loop()
     if isinstance(address, str):

@@ -52,6 +52,9 @@ class PendingTable:
 
         Where ``write`` raises, the commit counts as ended: it has to be written by then, or never to be. Where that is not known, as
         behind a lost connection to the database, call :meth:`begin`, and end it once it is.
+
+        Refuses as :meth:`begin` does, and then ``write`` was not called; or as :meth:`Stamper.wait_past` does, as while the masters
+        are away, and then the commit is written and not released: call :meth:`release` with the stamp that ``write`` was given.
         """
         stamp_ns = self.begin(floor_ns)
         try:
@@ -77,7 +80,7 @@ class PendingTable:
             return False
         with self._changed:
             left_s = None if deadline is None else max(deadline - time.monotonic(), 0)
-            return self._changed.wait_for(lambda: self._least() > t_ns, left_s)
+            return self._changed.wait_for(lambda: self._least() > t_ns, left_s and min(left_s, threading.TIMEOUT_MAX))
 
     def _least(self) -> int:
         return next(iter(self._unwritten), 2**64)

@@ -3,7 +3,7 @@ import contextlib
 import threading
 from typing import Callable, Iterator, List
 
-from ._calls import TIMEOUT_S
+from ._calls import TIMEOUT_S, at_most
 from .sessions import Session
 
 
@@ -27,7 +27,7 @@ class Pool:
         """
         if size < 1:
             raise ValueError("a pool has one session at least")
-        self._opened, self._timeout_s = opened, timeout_s
+        self._opened, self._timeout_s = opened, at_most(timeout_s)
         self._places = threading.BoundedSemaphore(size)
         self._idle: List[Session] = []
         self._is_closed = False

@@ -6,8 +6,9 @@ import pwd
 import stat
 import struct
 import sys
+import threading
 import time
-from typing import NamedTuple, Union
+from typing import NamedTuple, Optional, Union
 
 from .refusals import MAX_TIME_NS, Refused
 
@@ -24,6 +25,8 @@ _LOWEST_BITS = 0x0101010101010101
 _WORD = struct.Struct("@Q")
 _SLOT = struct.Struct("@16Q")
 _USED_WORDS = 9
+# The time from one look at the path to the next.
+_LOOK_NS = 1_000_000_000
 
 
 class Reading(NamedTuple):
@@ -80,33 +83,86 @@ class Publication(NamedTuple):
         )
 
 
-class Client:
-    """A file of a daemon. Any number of threads may use one client."""
+class _Opened:
+    """A file that is open. It is unmapped or closed with the last reference, that of a call that reads it."""
 
-    def __init__(self, path: str, owner: Union[int, str], mapped: bool = True) -> None:
+    __slots__ = ("mapped", "number", "_key")
+
+    def __init__(self, path: str, owner: int, is_mapped: bool) -> None:
+        self.mapped: Optional[mmap.mmap] = None
+        self.number = -1
+        self.number, found = _opened(path, owner)
+        self._key = found.st_dev, found.st_ino
+        if is_mapped:
+            try:
+                self.mapped = mmap.mmap(self.number, _BYTES, mmap.MAP_SHARED, mmap.PROT_READ)
+            except (OSError, ValueError) as failed:  # a ValueError where it has become shorter
+                raise Refused(1701) from failed
+            finally:
+                self._close_number()
+
+    def __del__(self) -> None:
+        self._close_number()
+
+    def close(self) -> None:
+        if self.mapped is not None:
+            self.mapped.close()
+        self._close_number()
+
+    def _close_number(self) -> None:
+        number, self.number = self.number, -1
+        if number >= 0:
+            os.close(number)
+
+    def is_at(self, path: str) -> bool:
+        """Whether it is the file at this path, as far as can be seen."""
+        try:
+            found = os.lstat(path)
+        except OSError:
+            return True
+        return (found.st_dev, found.st_ino) == self._key
+
+    def copied(self) -> "tuple[int, tuple[int, ...], int]":
+        """The same as ``_copied`` of a file that is not mapped."""
+        try:
+            (index,) = _WORD.unpack(os.pread(self.number, _WORD.size, _INDEX_AT))
+            slot = _SLOT.unpack(os.pread(self.number, _SLOT.size, _slot_at(index)))
+            return index, slot, _WORD.unpack(os.pread(self.number, _WORD.size, _INDEX_AT))[0]
+        except (OSError, struct.error) as failed:  # a struct.error where it has become shorter
+            raise Refused(1701) from failed
+
+
+class Client:
+    """A file of a daemon. Any number of threads may use one client.
+
+    A call that would refuse, or give a reading that is not ``fresh``, looks at the path, at most once a second. Where another file is
+    there, as behind a restart, the client opens that by the same rules, and answers by it.
+    """
+
+    def __init__(self, path: str, owner: Union[int, str], mapped: bool = True, max_width_ns: Optional[int] = None) -> None:
         """Opens the file at this path, which the user ``owner``, a name or a number, has to own. Refuses with 1701 and 1702.
 
         Where it is not ``mapped``, each call reads it; a mapped one keeps a descriptor, too. What the system said is the cause of a 1701, and the text of a 1702 says
         what the file is not.
+
+        Readings wider than ``max_width_ns`` are refused with 1824, and so the timestamps by them; the machine's own max_width need not be
+        set.
         """
+        self._opened: Optional[_Opened] = None
         if sys.byteorder != "little" or _WORD.size != 8:
             raise Refused(1702, ": this machine is not of 64 bits, or big-endian")
-        self._mapped: Union[mmap.mmap, None] = None
-        self._file = _opened(path, _user_of(owner))
-        if mapped:
-            try:
-                self._mapped = mmap.mmap(self._file, _BYTES, mmap.MAP_SHARED, mmap.PROT_READ)
-            except (OSError, ValueError) as failed:  # a ValueError where it has become shorter
-                raise Refused(1701) from failed
-            finally:
-                self._close_file()
+        self._path, self._owner, self._is_mapped = _path_from_root(path), _user_of(owner), mapped
+        self._max_width_ns = MAX_TIME_NS if max_width_ns is None else max_width_ns
+        self._next_look_ns = 0
+        self._looking = threading.Lock()
+        self._opened = _Opened(self._path, self._owner, mapped)
 
     def close(self) -> None:
         """Unmaps or closes the file. Calls refuse with 1701 then."""
-        mapped, self._mapped = self._mapped, None
-        if mapped is not None:
-            mapped.close()
-        self._close_file()
+        with self._looking:
+            opened, self._opened = self._opened, None
+        if opened is not None:
+            opened.close()
 
     def __enter__(self) -> "Client":
         return self
@@ -117,9 +173,45 @@ class Client:
     def read(self) -> Publication:
         """The last publication. Refuses with 801, 1704 and 1703, then with 801 where nothing is published any more, and with 1701 where it
         is not mapped and has become shorter."""
-        mapped = self._mapped
+        try:
+            return self._read()
+        except Refused:
+            if not self._is_renewed():
+                raise
+        return self._read()
+
+    def now(self) -> Reading:
+        """The time now. Refuses as ``read``, and with 803, 802 and 1708, and with 1824 where it is wider than ``max_width_ns``."""
+        try:
+            reading = self._now()
+            if reading.fresh or not self._is_renewed():
+                return reading
+        except Refused:
+            if not self._is_renewed():
+                raise
+        return self._now()
+
+    def _now(self) -> Reading:
+        """``now`` by the file that is open."""
+        published = self._read()
+        # The clock is read after the publication, so it is not below that of the publication.
+        try:
+            clock_ns = time.clock_gettime_ns(time.CLOCK_MONOTONIC)
+        except OSError as failed:
+            raise Refused(803) from failed
+        now = published.read_at(clock_ns)
+        if now.latest_ns - now.earliest_ns > self._max_width_ns:
+            raise Refused(1824)
+        return now
+
+    def _read(self) -> Publication:
+        """``read`` by the file that is open."""
+        opened = self._opened
+        if opened is None:
+            raise Refused(1701, ": the client is closed")
+        mapped = opened.mapped
         for _ in range(_TRIES):
-            index, word, again = self._copied_unmapped() if mapped is None else _copied(mapped)
+            index, word, again = opened.copied() if mapped is None else _copied(mapped)
             if again != index:
                 continue
             if index == 0:
@@ -132,28 +224,24 @@ class Client:
             return published
         raise Refused(1704)
 
-    def _copied_unmapped(self) -> "tuple[int, tuple[int, ...], int]":
+    def _is_renewed(self) -> bool:
+        """Looks at the path, unless it was looked at within a second, and takes another file that is there, where it passes the checks of
+        opening one. Whether it did."""
+        if not self._looking.acquire(blocking=False):
+            return False
         try:
-            (index,) = _WORD.unpack(os.pread(self._file, _WORD.size, _INDEX_AT))
-            slot = _SLOT.unpack(os.pread(self._file, _SLOT.size, _slot_at(index)))
-            return index, slot, _WORD.unpack(os.pread(self._file, _WORD.size, _INDEX_AT))[0]
-        except (OSError, struct.error) as failed:  # a struct.error where it has become shorter
-            raise Refused(1701) from failed
-
-    def _close_file(self) -> None:
-        if self._file >= 0:
-            os.close(self._file)
-        self._file = -1
-
-    def now(self) -> Reading:
-        """The time now. Refuses as ``read``, and with 803, 802 and 1708."""
-        published = self.read()
-        # The clock is read after the publication, so it is not below that of the publication.
-        try:
-            clock_ns = time.clock_gettime_ns(time.CLOCK_MONOTONIC)
-        except OSError as failed:
-            raise Refused(803) from failed
-        return published.read_at(clock_ns)
+            now_ns = time.monotonic_ns()
+            if self._opened is None or now_ns < self._next_look_ns:
+                return False
+            self._next_look_ns = now_ns + _LOOK_NS
+            if self._opened.is_at(self._path):
+                return False
+            self._opened = _Opened(self._path, self._owner, self._is_mapped)
+            return True
+        except Refused:
+            return False
+        finally:
+            self._looking.release()
 
 
 def _copied(mapped: mmap.mmap) -> "tuple[int, tuple[int, ...], int]":
@@ -176,6 +264,15 @@ def _slot_at(index: int) -> int:
     return _SLOTS_AT[bin(index & _LOWEST_BITS).count("1") & 1]
 
 
+def _path_from_root(path: str) -> str:
+    """A path that does not begin at the root is one from here, also where the process goes elsewhere."""
+    path = os.fsdecode(path)
+    try:
+        return path if os.path.isabs(path) else os.path.join(os.getcwd(), path)
+    except OSError:
+        return path
+
+
 def _user_of(owner: Union[int, str]) -> int:
     """The number of a user."""
     if not isinstance(owner, str):
@@ -186,25 +283,26 @@ def _user_of(owner: Union[int, str]) -> int:
         raise Refused(1702, f": there is no user {owner}") from unknown
 
 
-def _opened(path: str, owner: int) -> int:
+def _opened(path: str, owner: int) -> "tuple[int, os.stat_result]":
+    """The descriptor of the file at this path, where it is such a file, and what it is."""
     try:
         file = os.open(path, os.O_RDONLY | os.O_CLOEXEC | os.O_NOFOLLOW | os.O_NONBLOCK)
     except OSError as failed:
         raise Refused(1701) from failed
     try:
-        fault = _fault_of(file, owner)
+        found = os.fstat(file)
+        fault = _fault_of(file, found, owner)
     except OSError as failed:
         os.close(file)
         raise Refused(1701) from failed
     if fault:
         os.close(file)
         raise Refused(1702, f": {fault}")
-    return file
+    return file, found
 
 
-def _fault_of(file: int, owner: int) -> str:
+def _fault_of(file: int, found: os.stat_result, owner: int) -> str:
     """Which of the checks an open file does not pass; nothing where it passes all."""
-    found = os.fstat(file)
     if not stat.S_ISREG(found.st_mode) or found.st_size != _BYTES:
         return f"it is no file of {_BYTES} bytes"
     if found.st_uid != owner:

@@ -1,4 +1,6 @@
 """Refusals and what all modules of the package know."""
+import enum
+from typing import Any
 
 #: The greatest time and the greatest clock reading, in nanoseconds.
 MAX_TIME_NS = 4_000_000_000_000_000_000
@@ -28,16 +30,50 @@ _MEANINGS = {
     1821: "the floor, or the lower end of the lease, is further ahead than the machine allows",
     1822: "the commit is pending no more: its connection broke, or the machine ends",
     1823: "the machine knows that an assumption of the service is broken",
-    1824: "the reading is wider than the machine allows",
+    1824: "the reading is wider than the machine allows, or than max_width of this client",
 }
 
 
+class Refusal(enum.IntEnum):
+    """The numbers of refusals, as ``refused.number == Refusal.READING_TOO_WIDE``. The text of a :class:`Refused` says what each means."""
+
+    OUT_OF_MEMORY = 1
+    LEASE_BACKWARDS = 101
+    LEASE_PAST_MAX = 102
+    NOTHING = 801
+    CLOCK_BACK = 802
+    CLOCK_FAILED = 803
+    USED_UP = 901
+    FLOOR_TOO_FAR = 902
+    LEASE_OVER = 903
+    TOO_MANY_COMMITS = 1001
+    ID_USED = 1002
+    STAMP_USED = 1003
+    NO_LINE = 1101
+    LINE_TOO_LONG = 1102
+    COMMIT_PASSED = 1103
+    COMMIT_PENDING = 1104
+    NO_FILE = 1701
+    OTHER_FILE = 1702
+    NO_SLOT = 1703
+    BUSY = 1704
+    TOO_WIDE = 1708
+    FLOOR_ABOVE_CAP = 1821
+    COMMIT_GONE = 1822
+    BROKEN = 1823
+    READING_TOO_WIDE = 1824
+
+
 class Refused(Exception):
-    """A refusal; ``number`` says which."""
+    """A refusal; ``number`` says which: :class:`Refusal` has their names."""
 
     def __init__(self, number: int, more: str = "") -> None:
         super().__init__(f"refused {number}: {_MEANINGS.get(number, 'see docs/FORMATS.md')}{more}")
         self.number = number
+        self._more = more
+
+    def __reduce__(self) -> "tuple[Any, ...]":
+        return type(self), (self.number, self._more), self.__dict__
 
 
 class CommitPending(Refused):
@@ -49,6 +85,9 @@ class CommitPending(Refused):
     def __init__(self, commit: int, stamp_ns: int) -> None:
         super().__init__(1104, f": call wait() for commit {commit}, whose timestamp is {stamp_ns}")
         self.commit, self.stamp_ns = commit, stamp_ns
+
+    def __reduce__(self) -> "tuple[Any, ...]":
+        return type(self), (self.commit, self.stamp_ns), self.__dict__
 
 
 class SessionLost(ConnectionError):
@@ -67,4 +106,7 @@ class SessionLost(ConnectionError):
             said.append("the lease has to be set again")
         super().__init__("; ".join(said))
         self.commit, self.stamp_ns, self.had_lease = commit, stamp_ns, had_lease
-        self.__cause__ = failed
+        self._failed = self.__cause__ = failed
+
+    def __reduce__(self) -> "tuple[Any, ...]":
+        return type(self), (self._failed, self.commit, self.stamp_ns, self.had_lease), self.__dict__

@@ -5,7 +5,7 @@ import threading
 import time
 from typing import Optional, TypeVar
 
-from ._calls import CONNECT_PAUSE_S, LINE_BYTES, TIMEOUT_S, Address, Call, Calls, Interval, has_ended, log, reply_in
+from ._calls import CONNECT_PAUSE_S, LINE_BYTES, TIMEOUT_S, Address, Call, Calls, Interval, Reached, address_of, at_most, has_ended, log, reply_in
 from .refusals import SessionLost
 
 _T = TypeVar("_T")
@@ -26,16 +26,23 @@ class Session:
     before its line was sent, as behind a pause, where that loses nothing of the caller's; no line is sent a second time. Nor is
     the lease set again: once :meth:`lease` was called, :meth:`begin` and :meth:`commit` refuse with 903 as long as the
     connection has no lease.
+
+    Times are whole numbers: a float raises :class:`TypeError`, and one below 0 or above 2**64 - 1 :class:`ValueError`; nothing is
+    sent then. An exception of a signal handler, as :class:`KeyboardInterrupt`, ends the connection where it comes while a reply is
+    awaited: then a commit that was pending and the lease are lost, too.
     """
 
-    def __init__(self, address: Address, timeout_s: float = TIMEOUT_S) -> None:
+    def __init__(self, address: Address, timeout_s: float = TIMEOUT_S, max_width_ns: Optional[int] = None) -> None:
         """Connects to a TCP address, or to the Unix socket at a path.
 
         ``timeout_s`` is how long connecting, sending, each receiving and the waiting for a release may take. Connecting anew is
-        part of the sending and receiving that follow it.
+        part of the sending and receiving that follow it. One of more than 23 days counts as 23 days.
+
+        Readings wider than ``max_width_ns`` are refused with 1824, also where the machine allows them: :meth:`now` looks at each,
+        :meth:`after` and :meth:`before` compare with one of that, and before a commit begins one is asked for.
         """
-        self._address, self._timeout_s = address, timeout_s
-        self._calls = Calls(timeout_s)
+        self._address, self._timeout_s = address_of(address), at_most(timeout_s)
+        self._calls = Calls(timeout_s, max_width_ns)
         self._is_closed = False
         self._turn, self._is_busy = threading.RLock(), False
         self._socket: Optional[socket.socket] = None
@@ -87,7 +94,8 @@ class Session:
     def lease(self, lo_ns: int, hi_ns: int) -> None:
         """Sets the lease: timestamps of commits that begin from now on lie from ``lo_ns`` to ``hi_ns``, both included.
 
-        Refuses with 101 and 102, and then the lease is what it was.
+        Refuses with 101 and 102, and then the lease is what it was; where there was none, :meth:`begin` and :meth:`commit` refuse with
+        903 until one is set.
         """
         self._made(self._calls.lease(lo_ns, hi_ns))
 
@@ -215,7 +223,7 @@ class Session:
         self._calls.forget()
 
 
-def _connected(address: Address, timeout_s: float) -> socket.socket:
+def _connected(address: Reached, timeout_s: float) -> socket.socket:
     if not isinstance(address, str):
         made = socket.create_connection(address, timeout_s)
         made.setsockopt(socket.IPPROTO_TCP, socket.TCP_NODELAY, 1)

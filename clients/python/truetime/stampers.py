@@ -1,4 +1,5 @@
 """Timestamps for commits, given in this process by a reader."""
+import operator
 import threading
 import time
 from typing import NamedTuple, Union
@@ -52,8 +53,10 @@ class Stamper:
 
         A floor may lie ``ahead_ns`` ahead of the latest, ten seconds at most: it moves all later stamps, too. Stamps are multiples
         of ``grid_ns``, a second at most: 1,000 where a database keeps microseconds. Refuses with 101 and 102; other numbers raise
-        :class:`ValueError`.
+        :class:`ValueError`. All times are whole numbers: a float, which has no room for one, raises :class:`TypeError` in each call.
         """
+        lease_lo_ns, lease_hi_ns = operator.index(lease_lo_ns), operator.index(lease_hi_ns)
+        ahead_ns, grid_ns = operator.index(ahead_ns), operator.index(grid_ns)
         if lease_hi_ns < lease_lo_ns:
             raise Refused(101)
         if lease_hi_ns > MAX_TIME_NS:
@@ -74,6 +77,7 @@ class Stamper:
 
     def extend(self, lease_hi_ns: int) -> None:
         """Has the lease end later, while other threads stamp. It never ends earlier by this. Refuses with 102."""
+        lease_hi_ns = operator.index(lease_hi_ns)
         if lease_hi_ns > MAX_TIME_NS:
             raise Refused(102)
         with self._lock:
@@ -81,6 +85,7 @@ class Stamper:
 
     def rise_above(self, t_ns: int) -> None:
         """Has all stamps from now on be above this time, as above the greatest in a log. Refuses with 102."""
+        t_ns = operator.index(t_ns)
         if t_ns > MAX_TIME_NS:
             raise Refused(102)
         with self._lock:
@@ -101,6 +106,7 @@ class Stamper:
 
         Refuses with 902, 901 and 903.
         """
+        floor_ns = operator.index(floor_ns)
         if floor_ns > reading.latest_ns + self._ahead_ns:
             raise Refused(902)
         with self._lock:
@@ -118,12 +124,12 @@ class Stamper:
 
         Refuses as :meth:`Client.now`.
         """
-        return self._client.now().after(stamp_ns)
+        return self._client.now().after(operator.index(stamp_ns))
 
     def left_ns(self, stamp_ns: int) -> int:
         """One step of :meth:`wait_past`, for who has to look at something else meanwhile: 0 where a stamp has surely passed, or else
         how long to sleep before the next look, at most 50 milliseconds. Refuses as :meth:`Client.now`."""
-        now = self._client.now()
+        stamp_ns, now = operator.index(stamp_ns), self._client.now()
         return 0 if now.after(stamp_ns) else min(stamp_ns - now.earliest_ns + 1, _LONGEST_SLEEP_NS)
 
     def wait_past(self, stamp_ns: int, timeout_s: Union[float, None] = None) -> bool:

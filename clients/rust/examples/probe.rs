@@ -4,7 +4,7 @@ use std::fs;
 use std::io::{self, BufWriter, Write};
 use std::os::unix::fs::MetadataExt;
 use std::sync::atomic::{AtomicBool, Ordering};
-use std::sync::{Barrier, Mutex};
+use std::sync::{Arc, Barrier, Mutex};
 use std::thread;
 use std::time::{Duration, Instant};
 use truetime::stamper::{Lease, Stamp, MAX_AHEAD_NS};
@@ -67,12 +67,16 @@ fn try_files() -> io::Result<()> {
 
 fn open_session(address: &str) -> Result<Session, Error> {
     let words: Vec<&str> = address.split(' ').collect();
-    let [kind, place, milliseconds] = words[..] else { panic!("three words") };
+    let [kind, place, milliseconds, max_width @ ..] = &words[..] else { panic!("three words") };
     let timeout = Duration::from_millis(milliseconds.parse().expect("a number"));
-    match kind {
-        "unix" => Session::connect_unix(place, timeout),
-        _ => Session::connect_tcp(("127.0.0.1", place.parse().expect("a port")), timeout),
+    let mut session = match *kind {
+        "unix" => Session::connect_unix(place, timeout)?,
+        _ => Session::connect_tcp(("127.0.0.1", place.parse().expect("a port")), timeout)?,
+    };
+    if let [max_width] = max_width {
+        session.limit_width(max_width.parse().expect("a number"));
     }
+    Ok(session)
 }
 
 /// Makes a call, and gives what it gives.
@@ -429,6 +433,184 @@ fn try_openings() -> io::Result<()> {
     Ok(())
 }
 
+/// What a thread saw that reads again and again: a bit for each epoch, and how many readings were torn and refused.
+fn reread(stamper: &Stamper, is_over: &AtomicBool) -> [u64; 3] {
+    let mut seen = [0; 3];
+    while !is_over.load(Ordering::Acquire) {
+        match stamper.client().now() {
+            Ok(now) => {
+                seen[0] |= 1 << now.epoch;
+                seen[1] += u64::from(now.latest_ns - now.earliest_ns != now.epoch);
+            }
+            Err(_) => seen[2] += 1,
+        }
+    }
+    seen
+}
+
+/// The threads that read, and what ends them.
+type Rereading = (Arc<AtomicBool>, Vec<thread::JoinHandle<[u64; 3]>>);
+
+fn end_rereading((is_over, threads): Rereading) -> String {
+    is_over.store(true, Ordering::Release);
+    let seen: Vec<[u64; 3]> = threads.into_iter().map(|thread| thread.join().expect("a thread")).collect();
+    let epochs = seen.iter().fold(0, |all, one| all | one[0]);
+    let said: String = (0..64).filter(|epoch| epochs >> epoch & 1 != 0).map(|epoch| format!("{epoch} ")).collect();
+    let sum = |of: usize| seen.iter().map(|one| one[of]).sum::<u64>();
+    format!("{said}seen, {} torn, {} refused", sum(1), sum(2))
+}
+
+fn open_reader(kind: &str, path: &str, max_width: &[&str]) -> Result<Arc<Stamper>, Error> {
+    let mut client = if kind == "mapped" { Client::open(path, user())? } else { Client::open_unmapped(path, user())? };
+    if let [max_width] = max_width {
+        client = client.with_max_width(max_width.parse().expect("a number"));
+    }
+    Ok(Arc::new(Stamper::new(client)))
+}
+
+fn start_rereading(stamper: &Arc<Stamper>, count: &str) -> Rereading {
+    let is_over = Arc::new(AtomicBool::new(false));
+    let start = |_| {
+        let (stamper, is_over) = (stamper.clone(), is_over.clone());
+        thread::spawn(move || reread(&stamper, &is_over))
+    };
+    let threads = (0..count.parse().expect("a number")).map(start).collect();
+    (is_over, threads)
+}
+
+fn try_renewals() -> io::Result<()> {
+    let (mut open, mut running): (Option<Arc<Stamper>>, Option<Rereading>) = (None, None);
+    let closed = || Error::NoFile(io::ErrorKind::NotFound.into());
+    for line in io::stdin().lines() {
+        let line = line?;
+        let words: Vec<&str> = line.split(' ').collect();
+        let said = match (&words[..], &open) {
+            (["open", kind, path, max_width @ ..], _) => open_reader(kind, path, max_width).map(|opened| {
+                open = Some(opened);
+                "open".to_string()
+            }),
+            (["now"], stamper) => stamper.as_ref().ok_or_else(closed).and_then(|stamper| stamper.client().now()).map(|now| {
+                let fresh = if now.fresh { "fresh" } else { "stale" };
+                format!("{} {} {fresh}", now.epoch, now.latest_ns - now.earliest_ns)
+            }),
+            (["stamp"], Some(stamper)) => stamper.stamp(0).map(|given| given.stamp_ns.to_string()),
+            (["threads", count], Some(stamper)) => {
+                running = Some(start_rereading(stamper, count));
+                Ok("started".to_string())
+            }
+            (["end"], _) => Ok(end_rereading(running.take().expect("threads"))),
+            (["close"], _) => {
+                open = None;
+                Ok("closed".to_string())
+            }
+            _ => Ok("rested".to_string()),
+        };
+        println!("{}", said.unwrap_or_else(|error| said_of_error(&error)));
+    }
+    Ok(())
+}
+
+/// The session of tokio: `tokio session`, and `tokio openings` of sessions.
+#[cfg(feature = "tokio")]
+mod of_tokio {
+    use super::{numbers_of, said_of_error, QUESTIONS};
+    use std::io;
+    use std::time::Duration;
+    use tokio::runtime::{Builder, Runtime};
+    use truetime::aio::Session;
+    use truetime::Error;
+
+    fn runtime() -> Runtime {
+        Builder::new_current_thread().enable_all().build().expect("a runtime")
+    }
+
+    async fn open_session(address: &str) -> Result<Session, Error> {
+        let words: Vec<&str> = address.split(' ').collect();
+        let [kind, place, milliseconds, max_width @ ..] = &words[..] else { panic!("three words") };
+        let timeout = Duration::from_millis(milliseconds.parse().expect("a number"));
+        let mut session = match *kind {
+            "unix" => Session::connect_unix(place, timeout).await?,
+            _ => Session::connect_tcp(("127.0.0.1", place.parse().expect("a port")), timeout).await?,
+        };
+        if let [max_width] = max_width {
+            session.limit_width(max_width.parse().expect("a number"));
+        }
+        Ok(session)
+    }
+
+    async fn call_session(open: &mut Option<Session>, name: &str, rest: &str) -> Result<String, Error> {
+        if name == "open" {
+            *open = Some(open_session(rest).await?);
+            return Ok("open".to_string());
+        }
+        if name == "close" {
+            *open = None;
+            return Ok("closed".to_string());
+        }
+        let session = open.as_mut().ok_or(Error::Failed(io::ErrorKind::NotConnected.into()))?;
+        let number = || rest.parse().expect("a number");
+        let yes_or_no = |answer| String::from(if answer { "yes" } else { "no" });
+        match name {
+            "now" => session.now().await.map(|now| format!("{} {}", now.earliest_ns, now.latest_ns)),
+            "after" => session.after(number()).await.map(yes_or_no),
+            "before" => session.before(number()).await.map(yes_or_no),
+            "begin" => session.begin(number()).await.map(|stamp| stamp.to_string()),
+            "wait" => session.wait().await.map(|stamp| stamp.to_string()),
+            "commit" => session.commit(number()).await.map(|stamp| stamp.to_string()),
+            "lease" => {
+                let [lo_ns, hi_ns] = numbers_of(rest);
+                session.lease(lo_ns, hi_ns).await.map(|()| format!("leased {rest}"))
+            }
+            _ => session.ask(rest).await,
+        }
+    }
+
+    pub fn try_sessions() -> io::Result<()> {
+        let (mut session, mut told, runtime) = (None, String::new(), runtime());
+        for line in io::stdin().lines() {
+            let line = line?;
+            if line == "told" {
+                println!("{told}");
+                continue;
+            }
+            let (name, rest) = line.split_once(' ').unwrap_or((&line, ""));
+            match runtime.block_on(call_session(&mut session, name, rest)) {
+                Ok(said) => println!("{said}"),
+                Err(error) => {
+                    told = error.to_string();
+                    println!("{}", said_of_error(&error))
+                }
+            }
+        }
+        Ok(())
+    }
+
+    pub fn try_openings() -> io::Result<()> {
+        let (mut opened, runtime) = (Vec::new(), runtime());
+        for line in io::stdin().lines() {
+            let line = line?;
+            match line.split(' ').collect::<Vec<_>>()[..] {
+                ["open", kind, place, count, milliseconds] => {
+                    let mut answers = 0;
+                    opened.clear();
+                    for _ in 0..count.parse().expect("a number") {
+                        let Ok(mut session) = runtime.block_on(open_session(&format!("{kind} {place} {milliseconds}"))) else { continue };
+                        answers += (0..QUESTIONS).filter(|_| runtime.block_on(session.now()).is_ok()).count();
+                        opened.push(session);
+                    }
+                    println!("{} opened, {answers} answers", opened.len());
+                }
+                ["close"] => {
+                    opened.clear();
+                    println!("closed");
+                }
+                _ => println!("rested"),
+            }
+        }
+        Ok(())
+    }
+}
+
 fn main() -> io::Result<()> {
     let words: Vec<String> = env::args().skip(1).collect();
     match words.iter().map(String::as_str).collect::<Vec<_>>()[..] {
@@ -443,6 +625,11 @@ fn main() -> io::Result<()> {
         ["pending"] => try_tables(),
         ["pool"] => try_pools(),
         ["openings"] => try_openings(),
-        _ => panic!("usage: probe vectors | probe open PATH | probe files | probe session | probe stamper | probe pending | probe pool | probe openings"),
+        ["renewals"] => try_renewals(),
+        #[cfg(feature = "tokio")]
+        ["tokio", "session"] => of_tokio::try_sessions(),
+        #[cfg(feature = "tokio")]
+        ["tokio", "openings"] => of_tokio::try_openings(),
+        _ => panic!("usage: probe vectors | open PATH | files | session | stamper | pending | pool | openings | renewals"),
     }
 }

@@ -66,7 +66,7 @@ refusals! {
     FloorAboveCap = 1821 => "the floor, or the lower end of the lease, is further ahead than the machine allows",
     CommitGone = 1822 => "the commit is pending no more: its connection broke, or the machine ends",
     Broken = 1823 => "the machine knows that an assumption of the service is broken",
-    ReadingTooWide = 1824 => "the reading is wider than the machine allows",
+    ReadingTooWide = 1824 => "the reading is wider than the machine allows, or than max_width of this client",
 }
 
 impl fmt::Display for Refused {

@@ -1,5 +1,5 @@
 //! The time with an error bound, read from shared memory; timestamps for commits are in [`stamper`], by the same memory, and
-//! in [`session`], by the service.
+//! in [`session`], by the service, and for programs of tokio in `aio`, with the feature `tokio`.
 //!
 //! The time daemon of a machine keeps its last publication in a file of 320 bytes. A client maps that file once and reads
 //! it as often as it likes, without a lock and without waiting.
@@ -14,12 +14,18 @@
 //! Where an owner of the file or of its folder truncates the file, a mapped one raises SIGBUS. A client of
 //! [`Client::open_unmapped`] refuses instead; each of its calls makes three system calls more.
 //!
+//! A call that would refuse, or give a reading that is not fresh, looks at the path, at most once a second. Where another file is
+//! there, as behind a restart, the client opens that by the same rules, and answers by it.
+//!
 //! Reads version 2 of the format (its first four bytes are `TTS2`), and refuses a file of version 1 with 1702. Needs Linux on a little-endian 64-bit machine.
 #![warn(missing_docs)]
 
 #[cfg(not(all(target_os = "linux", target_endian = "little", target_pointer_width = "64")))]
 compile_error!("truetime needs Linux on a little-endian 64-bit machine");
 
+#[cfg(feature = "tokio")]
+pub mod aio;
+mod calls;
 mod error;
 mod os;
 mod pending;
@@ -33,14 +39,16 @@ pub use pool::{Pool, Pooled};
 pub use session::Session;
 pub use stamper::Stamper;
 
+use std::env;
 use std::ffi::c_void;
-use std::fs::{self, File, OpenOptions};
+use std::fs::{self, File, Metadata, OpenOptions};
 use std::io;
-use std::os::fd::AsRawFd;
+use std::os::fd::{AsRawFd, RawFd};
 use std::os::unix::fs::{FileExt, MetadataExt, OpenOptionsExt};
-use std::path::Path;
+use std::path::{Path, PathBuf};
 use std::ptr;
-use std::sync::atomic::{fence, AtomicU64, Ordering};
+use std::sync::atomic::{fence, AtomicU64, AtomicUsize, Ordering};
+use std::sync::{Arc, Mutex, MutexGuard, PoisonError};
 
 /// The greatest time and the greatest clock reading, in nanoseconds.
 pub const MAX_TIME_NS: u64 = 4_000_000_000_000_000_000;
@@ -55,6 +63,10 @@ const SLOT_WORDS: usize = 16;
 const TRIES: usize = 1000;
 const HEAD: [u64; 2] = [0x0000_0140_3253_5454, 1];
 const LOWEST_BITS: u64 = 0x0101_0101_0101_0101;
+/// How far the two pages of a reader are apart: as long as the longest page.
+const APART: usize = 1 << 16;
+/// The time from one look at the path to the next.
+const LOOK_NS: u64 = 1_000_000_000;
 
 /// The user who has to own a file: a name, or a number.
 #[derive(Clone, Debug, PartialEq, Eq)]
@@ -186,35 +198,107 @@ fn widening(drift_ppm: u64, elapsed: u64) -> u64 {
 #[derive(Debug)]
 pub struct Client {
     source: Source,
+    place: Place,
+    max_width_ns: u64,
 }
 
 #[derive(Debug)]
 enum Source {
-    Mapped(Words),
-    Unmapped(File),
+    Mapped(Pages),
+    /// The file is closed by the last call that reads it.
+    Unmapped(Mutex<Arc<File>>),
+}
+
+/// Where the file is, and which one is read.
+#[derive(Debug)]
+struct Place {
+    path: PathBuf,
+    owner: u32,
+    /// The clock reading from which on the path may be looked at again.
+    next_look_ns: AtomicU64,
+    /// The device and the number of the file. Who looks at the path has it locked.
+    read: Mutex<(u64, u64)>,
 }
 
 impl Client {
     /// Maps the file at this path, which the user `owner` has to own: a name or a number. Refuses with `NoFile` and `OtherFile`.
     pub fn open(path: impl AsRef<Path>, owner: impl Into<Owner>) -> Result<Client, Error> {
-        let words = Words::map(&open_file(path.as_ref(), owner.into().id()?)?)?;
-        Ok(Client { source: Source::Mapped(words) })
+        Client::with(path.as_ref(), owner.into().id()?, |file| Ok(Source::Mapped(Pages::map(&file)?)))
     }
 
     /// Opens it as `open`, and each call reads it.
     pub fn open_unmapped(path: impl AsRef<Path>, owner: impl Into<Owner>) -> Result<Client, Error> {
-        let file = open_file(path.as_ref(), owner.into().id()?)?;
-        Ok(Client { source: Source::Unmapped(file) })
+        Client::with(path.as_ref(), owner.into().id()?, |file| Ok(Source::Unmapped(Mutex::new(Arc::new(file)))))
+    }
+
+    fn with(path: &Path, owner: u32, source: impl FnOnce(File) -> io::Result<Source>) -> Result<Client, Error> {
+        let (file, found) = open_file(path, owner)?;
+        let source = source(file).map_err(Error::NoFile)?;
+        // A path that does not begin at the root is one from here, also where the process goes elsewhere.
+        let path = env::current_dir().map_or_else(|_| path.to_path_buf(), |here| here.join(path));
+        let place = Place { path, owner, next_look_ns: AtomicU64::new(0), read: Mutex::new((found.dev(), found.ino())) };
+        Ok(Client { source, place, max_width_ns: u64::MAX })
+    }
+
+    /// The same client, where readings that are wider than this are refused with `ReadingTooWide`, and so the timestamps by them; the
+    /// machine's own `max_width` need not be set.
+    pub fn with_max_width(mut self, max_width_ns: u64) -> Client {
+        self.max_width_ns = max_width_ns;
+        self
     }
 
     /// The last publication. Refuses with `Nothing`, `Busy` and `NoSlot`, then with `Nothing` where nothing is published any
     /// more, and with `NoFile` where the file is not mapped and has become shorter.
     #[inline]
     pub fn read(&self) -> Result<Publication, Error> {
+        match self.read_once() {
+            Err(_) if self.is_renewed() => self.read_once(),
+            read => read,
+        }
+    }
+
+    /// The time now. Refuses as `read`, and with `ClockFailed`, `ClockBack` and `TooWide`, and with `ReadingTooWide` by
+    /// [`Client::with_max_width`].
+    #[inline]
+    pub fn now(&self) -> Result<Reading, Error> {
+        match self.now_once() {
+            Ok(reading) if reading.fresh && self.is_narrow(&reading) => Ok(reading),
+            late => self.now_late(late),
+        }
+    }
+
+    /// `now` where the file that is open gives a reading that is late or too wide, or none: where another file is at the path, by
+    /// that.
+    #[cold]
+    #[inline(never)]
+    fn now_late(&self, late: Result<Reading, Error>) -> Result<Reading, Error> {
+        let reading = if self.is_renewed() { self.now_once()? } else { late? };
+        if self.is_narrow(&reading) { Ok(reading) } else { Err(Refused::ReadingTooWide.into()) }
+    }
+
+    #[inline]
+    fn is_narrow(&self, reading: &Reading) -> bool {
+        reading.latest_ns - reading.earliest_ns <= self.max_width_ns
+    }
+
+    /// The reading by the file that is open, however wide.
+    #[inline]
+    fn now_once(&self) -> Result<Reading, Error> {
+        let published = self.read_once()?;
+        // The clock is read after the publication, so it is not below that of the publication.
+        published.read_at(os::clock_ns().ok_or(Refused::ClockFailed)?)
+    }
+
+    /// `read` by the file that is open.
+    #[inline]
+    fn read_once(&self) -> Result<Publication, Error> {
         for _ in 0..TRIES {
             let (index, word, again) = match &self.source {
-                Source::Mapped(words) => words.copy(),
-                Source::Unmapped(file) => copy(file).map_err(Error::NoFile)?,
+                Source::Mapped(pages) => pages.copy(),
+                Source::Unmapped(file) => {
+                    let file = Arc::clone(&lock(file));
+                    copy(&file).map_err(Error::NoFile)?
+                }
             };
             if again != index {
                 continue;
@@ -232,13 +316,33 @@ impl Client {
         Err(Refused::Busy.into())
     }
 
-    /// The time now. Refuses as `read`, and with `ClockFailed`, `ClockBack` and `TooWide`.
-    #[inline]
-    pub fn now(&self) -> Result<Reading, Error> {
-        let published = self.read()?;
-        // The clock is read after the publication, so it is not below that of the publication.
-        published.read_at(os::clock_ns().ok_or(Refused::ClockFailed)?)
+    /// Looks at the path, unless it was looked at within a second, and takes another file that is there, where it passes the
+    /// checks of `open`. Whether it did.
+    #[cold]
+    #[inline(never)]
+    fn is_renewed(&self) -> bool {
+        let place = &self.place;
+        let (Some(now_ns), Ok(mut read)) = (os::clock_ns(), place.read.try_lock()) else { return false };
+        if now_ns < place.next_look_ns.load(Ordering::Relaxed) {
+            return false;
+        }
+        place.next_look_ns.store(now_ns + LOOK_NS, Ordering::Relaxed);
+        if fs::symlink_metadata(&place.path).map_or(true, |there| *read == (there.dev(), there.ino())) {
+            return false;
+        }
+        let Ok((file, found)) = open_file(&place.path, place.owner) else { return false };
+        match &self.source {
+            Source::Mapped(pages) if !pages.replace(&file) => return false,
+            Source::Mapped(_) => {}
+            Source::Unmapped(old) => *lock(old) = Arc::new(file),
+        }
+        *read = (found.dev(), found.ino());
+        true
     }
+}
+
+fn lock<T>(of: &Mutex<T>) -> MutexGuard<'_, T> {
+    of.lock().unwrap_or_else(PoisonError::into_inner)
 }
 
 /// The index, the slot that is current at it, and the index again.
@@ -253,43 +357,81 @@ fn slot_of(index: u64) -> usize {
     FIRST_SLOT + SLOT_WORDS * (odd_bytes & 1) as usize
 }
 
-/// The words of a mapped file.
+/// Two pages, of which the lowest bit of the turn says which one is that of the file. The other one is of no file.
 #[derive(Debug)]
-struct Words(*const AtomicU64);
+struct Pages {
+    at: *mut u8,
+    turn: AtomicUsize,
+}
 
-// SAFETY: the mapping stays until the words are dropped, and it is read by atomic loads alone.
-unsafe impl Send for Words {}
-unsafe impl Sync for Words {}
+// SAFETY: the pages stay until this is dropped, and are read by atomic loads alone.
+unsafe impl Send for Pages {}
+unsafe impl Sync for Pages {}
 
-impl Words {
-    fn map(file: &File) -> Result<Words, Error> {
-        // SAFETY: a new mapping, for reading alone, of the bytes that the file has.
-        let mapped = unsafe { os::mmap(ptr::null_mut(), BYTES, os::PROT_READ, os::MAP_SHARED, file.as_raw_fd(), 0) };
-        if mapped as isize == -1 {
-            return Err(Error::NoFile(io::Error::last_os_error()));
+impl Pages {
+    fn map(file: &File) -> io::Result<Pages> {
+        let kind = os::MAP_PRIVATE | os::MAP_ANONYMOUS;
+        // SAFETY: a new mapping of no file, for reading alone.
+        let at = unsafe { os::mmap(ptr::null_mut(), 2 * APART, os::PROT_READ, kind, -1, 0) };
+        if at as isize == -1 {
+            return Err(io::Error::last_os_error());
         }
-        Ok(Words(mapped.cast()))
+        let pages = Pages { at: at.cast(), turn: AtomicUsize::new(0) };
+        pages.put(0, Some(file))?;
+        Ok(pages)
     }
 
+    /// The page of a turn.
     #[inline]
-    fn load(&self, place: usize) -> u64 {
-        debug_assert!(place < WORDS);
-        // SAFETY: the mapping has that many words, and begins at a page.
-        unsafe { &*self.0.add(place) }.load(Ordering::Acquire)
+    fn page(&self, turn: usize) -> *mut u8 {
+        // SAFETY: both are within the mapping.
+        unsafe { self.at.add(turn % 2 * APART) }
     }
 
+    /// Maps a file, or nothing, in place of what is at the page of a turn.
+    fn put(&self, turn: usize, file: Option<&File>) -> io::Result<()> {
+        let none: RawFd = -1;
+        let (kind, file) = file.map_or((os::MAP_PRIVATE | os::MAP_ANONYMOUS, none), |file| (os::MAP_SHARED, file.as_raw_fd()));
+        // SAFETY: the page is this one's. Who reads there meanwhile loads words of the one or of the other.
+        let put = unsafe { os::mmap(self.page(turn).cast(), BYTES, os::PROT_READ, kind | os::MAP_FIXED, file, 0) };
+        if put as isize == -1 { Err(io::Error::last_os_error()) } else { Ok(()) }
+    }
+
+    /// Has this file read in place of the one before, which is unmapped. One thread at a time. Whether it could be mapped.
+    fn replace(&self, file: &File) -> bool {
+        let turn = self.turn.load(Ordering::Relaxed);
+        let is_mapped = self.put(turn + 1, Some(file)).is_ok();
+        if is_mapped {
+            self.turn.store(turn + 1, Ordering::SeqCst);
+            fence(Ordering::SeqCst);
+            let _ = self.put(turn, None); // who still reads there sees the turn, and reads again
+        }
+        is_mapped
+    }
+
+    /// What is there, with another index again where the file was replaced meanwhile. Nothing is mapped over the page of a turn while
+    /// that lasts.
     #[inline]
     fn copy(&self) -> Copied {
-        let index = self.load(INDEX_WORD);
+        let turn = self.turn.load(Ordering::Acquire);
+        let words: *const AtomicU64 = self.page(turn).cast();
+        let load = |place: usize| {
+            debug_assert!(place < WORDS);
+            // SAFETY: the page has that many words.
+            unsafe { &*words.add(place) }.load(Ordering::Acquire)
+        };
+        let index = load(INDEX_WORD);
         let slot = slot_of(index);
-        (index, std::array::from_fn(|place| self.load(slot + place)), self.load(INDEX_WORD))
+        let word = std::array::from_fn(|place| load(slot + place));
+        let again = load(INDEX_WORD);
+        (index, word, if self.turn.load(Ordering::Acquire) == turn { again } else { !index })
     }
 }
 
-impl Drop for Words {
+impl Drop for Pages {
     fn drop(&mut self) {
         // SAFETY: `map` made this mapping, and nothing borrows from it any more.
-        unsafe { os::munmap(self.0 as *mut c_void, BYTES) };
+        unsafe { os::munmap(self.at.cast::<c_void>(), 2 * APART) };
     }
 }
 
@@ -310,18 +452,18 @@ fn copy(file: &File) -> io::Result<Copied> {
 }
 
 /// The file at this path, where it is such a file.
-fn open_file(path: &Path, owner: u32) -> Result<File, Error> {
+fn open_file(path: &Path, owner: u32) -> Result<(File, Metadata), Error> {
     let opened = OpenOptions::new().read(true).custom_flags(os::O_NOFOLLOW | os::O_NONBLOCK).open(path);
     let file = opened.map_err(Error::NoFile)?;
-    match fault_of(&file, owner).map_err(Error::NoFile)? {
+    let found = file.metadata().map_err(Error::NoFile)?;
+    match fault_of(&file, &found, owner).map_err(Error::NoFile)? {
         Some(fault) => Err(Error::OtherFile(fault)),
-        None => Ok(file),
+        None => Ok((file, found)),
     }
 }
 
 /// Which of the checks an open file does not pass.
-fn fault_of(file: &File, owner: u32) -> io::Result<Option<FileFault>> {
-    let found = file.metadata()?;
+fn fault_of(file: &File, found: &Metadata, owner: u32) -> io::Result<Option<FileFault>> {
     if !found.is_file() || found.len() != BYTES as u64 {
         return Ok(Some(FileFault::Kind));
     }

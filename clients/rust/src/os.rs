@@ -2,7 +2,7 @@
 use std::ffi::{c_char, c_int, c_long, c_uint, c_ushort, c_void, CString};
 use std::io::{self, ErrorKind};
 use std::mem;
-use std::os::fd::{AsRawFd, FromRawFd};
+use std::os::fd::{AsRawFd, FromRawFd, RawFd};
 use std::os::unix::ffi::OsStrExt;
 use std::os::unix::net::UnixStream;
 use std::path::Path;
@@ -12,16 +12,21 @@ use std::time::{Duration, Instant};
 
 pub(crate) const PROT_READ: c_int = 1;
 pub(crate) const MAP_SHARED: c_int = 1;
+pub(crate) const MAP_PRIVATE: c_int = 2;
+pub(crate) const MAP_FIXED: c_int = 0x10;
+pub(crate) const MAP_ANONYMOUS: c_int = if cfg!(target_arch = "mips64") { 0x800 } else { 0x20 };
 pub(crate) const O_NONBLOCK: c_int = 0o4000;
 pub(crate) const O_NOFOLLOW: c_int = if cfg!(target_arch = "aarch64") { 0o100_000 } else { 0o400_000 };
 const CLOCK_MONOTONIC: c_int = 1;
 const AF_UNIX: c_ushort = 1;
 const SOCK_STREAM: c_int = 1;
+const MSG_PEEK: c_int = 2;
+const MSG_DONTWAIT: c_int = 0x40;
 const SOCK_CLOEXEC: c_int = 0o2_000_000;
 /// The most bytes of a socket's path, without the zero behind it.
 const PATH_BYTES: usize = 107;
 /// The pause before connecting again to a Unix socket at which as many wait as may.
-const CONNECT_PAUSE: Duration = Duration::from_millis(5);
+pub(crate) const CONNECT_PAUSE: Duration = Duration::from_millis(5);
 
 #[repr(C)]
 struct Timespec {
@@ -52,6 +57,7 @@ extern "C" {
     fn clock_gettime(clock: c_int, out: *mut Timespec) -> c_int;
     fn getpwnam_r(name: *const c_char, user: *mut User, text: *mut c_char, length: usize, found: *mut *mut User) -> c_int;
     fn socket(family: c_int, kind: c_int, protocol: c_int) -> c_int;
+    fn recv(socket: c_int, bytes: *mut c_void, length: usize, flags: c_int) -> isize;
     fn connect(socket: c_int, address: *const SocketPath, length: c_uint) -> c_int;
 }
 
@@ -113,4 +119,13 @@ pub(crate) fn reach(path: &Path, deadline: Instant) -> io::Result<UnixStream> {
             _ => return Err(error),
         }
     }
+}
+
+/// Whether a connection is of no more use before a line: its end is there to be received, or what nobody asked for.
+pub(crate) fn has_ended(connection: RawFd) -> bool {
+    let mut byte = [0_u8];
+    // SAFETY: the call writes at most one byte.
+    let is_quiet = unsafe { recv(connection, byte.as_mut_ptr().cast(), 1, MSG_PEEK | MSG_DONTWAIT) } < 0;
+    let error = io::Error::last_os_error().kind();
+    !is_quiet || !matches!(error, ErrorKind::WouldBlock | ErrorKind::Interrupted)
 }

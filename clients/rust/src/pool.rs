@@ -1,4 +1,5 @@
 //! Sessions for many threads.
+use crate::calls::at_most;
 use crate::{Error, Session};
 use std::fmt;
 use std::ops::{Deref, DerefMut};
@@ -42,7 +43,13 @@ impl Pool {
         timeout: Duration,
         open: impl Fn() -> Result<Session, Error> + Send + Sync + 'static,
     ) -> Pool {
-        Pool { open: Box::new(open), size: size.max(1), timeout, state: Mutex::default(), came_back: Condvar::new() }
+        Pool {
+            open: Box::new(open),
+            size: size.max(1),
+            timeout: at_most(timeout),
+            state: Mutex::default(),
+            came_back: Condvar::new(),
+        }
     }
 
     /// A session that nobody else has until it is dropped: the idle one that was used last, or a new one. Fails with
@@ -88,7 +95,7 @@ impl Pool {
     /// The last idle session that is of use.
     fn usable(&self) -> Option<Session> {
         loop {
-            let mut session = self.lock().idle.pop()?;
+            let session = self.lock().idle.pop()?;
             if session.is_idle() {
                 return Some(session);
             }
@@ -131,10 +138,12 @@ impl DerefMut for Pooled<'_> {
 impl Drop for Pooled<'_> {
     fn drop(&mut self) {
         let mut session = self.session.take();
-        let is_idle = session.as_mut().is_some_and(Session::is_idle);
+        if !session.as_ref().is_some_and(Session::is_idle) {
+            session = None; // it is closed before another one has its place
+        }
         let mut state = self.pool.lock();
         state.out -= 1;
-        if is_idle && !state.is_closed {
+        if !state.is_closed {
             state.idle.extend(session.take());
         }
         drop(state);

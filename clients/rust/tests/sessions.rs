@@ -160,6 +160,28 @@ fn an_observer_is_told() {
 }
 
 #[test]
+fn the_longest_time_out() {
+    let address = serve(released(Duration::ZERO));
+    let pool = Pool::new(1, Duration::MAX, move || Session::connect_tcp(address, Duration::MAX));
+    thread::scope(|scope| {
+        let held = pool.get().expect("a session");
+        scope.spawn(|| assert_eq!(pool.commit(0).expect("a timestamp"), 200));
+        thread::sleep(Duration::from_millis(50));
+        drop(held);
+    });
+    let room = Room::new("longest");
+    let listener = UnixListener::bind(room.path("socket")).expect("a socket");
+    let mut session = Session::connect_unix(room.path("socket"), Duration::MAX).expect("a session");
+    let (mut other, _) = listener.accept().expect("a session");
+    thread::spawn(move || {
+        let mut line = String::new();
+        BufReader::new(other.try_clone().expect("a stream")).read_line(&mut line).expect("a line");
+        writeln!(other, "yes").expect("it is sent");
+    });
+    assert!(session.after(5).expect("a reply"));
+}
+
+#[test]
 fn a_pool_that_cannot_open() {
     let pool = Pool::new(1, TIMEOUT, || Err(Error::Failed(ErrorKind::ConnectionRefused.into())));
     for _ in 0..3 {
@@ -202,7 +224,7 @@ fn connecting_to_a_full_unix_socket_ends_in_time() {
     let mut before = usize::MAX;
     while count() != before || before == 0 {
         before = count();
-        thread::sleep(Duration::from_millis(100));
+        thread::sleep(Duration::from_millis(500));
     }
     let began = Instant::now();
     let error = Session::connect_unix(room.path("socket"), Duration::from_millis(300)).expect_err("nobody is let in");

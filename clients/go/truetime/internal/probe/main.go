@@ -38,8 +38,10 @@ func main() {
 		tryPools(lines)
 	case len(words) == 1 && words[0] == "openings":
 		tryOpenings(lines)
+	case len(words) == 1 && words[0] == "renewals":
+		tryRenewals(lines)
 	default:
-		fmt.Fprintln(os.Stderr, "usage: probe vectors | probe open PATH | probe files | probe session | probe stamper | probe pending | probe pool | probe openings")
+		fmt.Fprintln(os.Stderr, "usage: probe vectors | probe open PATH | probe files | probe session | probe stamper | probe pending | probe pool | probe openings | probe renewals")
 		os.Exit(2)
 	}
 }
@@ -93,6 +95,9 @@ func trySessions(lines *bufio.Scanner) {
 			words := strings.Split(rest, " ")
 			timeout = time.Duration(number(words[2])) * time.Millisecond
 			session, err = dial(words[0], words[1], timeout)
+			if err == nil && len(words) == 4 {
+				session.SetMaxWidth(time.Duration(number(words[3])))
+			}
 			text = "open"
 		case "close":
 			session.Close()

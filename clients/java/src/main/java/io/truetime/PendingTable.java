@@ -75,7 +75,7 @@ public final class PendingTable {
      */
     public boolean makeReadable(long tNs, Duration timeout) throws InterruptedException {
         long began = System.nanoTime();
-        long limitNs = TimeUnit.NANOSECONDS.convert(timeout);
+        long limitNs = Math.min(TimeUnit.NANOSECONDS.convert(timeout), Long.MAX_VALUE / 2);
         if (!stamper.awaitPast(tNs, timeout)) {
             return false;
         }

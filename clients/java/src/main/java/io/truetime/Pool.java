@@ -73,7 +73,7 @@ public final class Pool implements AutoCloseable {
             throw new IllegalArgumentException("a pool has one session at least");
         }
         this.size = size;
-        this.timeout = timeout;
+        this.timeout = Session.atMost(timeout);
         this.opening = opening;
     }
 
@@ -160,8 +160,18 @@ public final class Pool implements AutoCloseable {
         return session;
     }
 
+    /** One that is not idle is closed before another one has its place. */
     private void takeBack(Session session) throws IOException {
-        if (!leavePlace(session.isIdle() ? session : null)) {
+        boolean isIdle = session.isIdle();
+        boolean isKept = false;
+        try {
+            if (!isIdle) {
+                session.close();
+            }
+        } finally {
+            isKept = leavePlace(isIdle ? session : null);
+        }
+        if (isIdle && !isKept) {
             session.close();
         }
     }

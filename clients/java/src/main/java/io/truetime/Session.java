@@ -34,10 +34,15 @@ import java.util.regex.Pattern;
  *
  * <p>A session has one line and its reply at a time; calls of several threads take turns. It has one commit at a time, so each
  * thread that commits wants a session of its own, or one of a {@link Pool}. What sessions meet is told to the {@link
- * System.Logger} {@code io.truetime}. A call throws {@link TrueTime.Refused} where the
+ * System.Logger} {@code io.truetime}: at DEBUG that they connected anew, that a connection failed, and what is refused, at
+ * WARNING that a commit waits for more than a second. Times are unsigned, so a negative one is past the greatest time. A call throws {@link TrueTime.Refused} where the
  * service refuses, and an {@link IOException} where the connection fails: {@link SocketTimeoutException} where no reply came
  * in time, {@link EOFException} where the service ended the session. Nobody knows then whether a commit that was asked for
  * was begun. It is {@link Lost}, with that as its cause, where a commit of {@link #begin} was pending or a lease was set.
+ *
+ * <p>An interrupt of a thread that waits in a call ends the connection, too: the call throws {@link InterruptedIOException}, {@link
+ * java.nio.channels.ClosedByInterruptException} or {@link Lost}, and the thread still counts as interrupted. To cancel what waits
+ * and keep its commit, let it end.
  *
  * <p>The next call after that connects anew, to a new session of the service. So does a call that finds the connection ended
  * before its line was sent, as behind a pause, where that loses nothing of the caller's. No line is sent a second time by that:
@@ -58,6 +63,8 @@ public final class Session implements AutoCloseable {
         TrueTime.Refused.USED_UP, TrueTime.Refused.FLOOR_TOO_FAR, TrueTime.Refused.LEASE_OVER, TrueTime.Refused.TOO_MANY_COMMITS,
         TrueTime.Refused.ID_USED, TrueTime.Refused.STAMP_USED, TrueTime.Refused.COMMIT_PENDING, TrueTime.Refused.FLOOR_ABOVE_CAP);
     private static final long PAUSE_MS = 1;
+    /** The longest time-out, some 24 days: connecting takes no longer one. */
+    private static final Duration LONGEST = Duration.ofMillis(Integer.MAX_VALUE);
     /** The pause before connecting again to a Unix socket at which as many wait as may. */
     private static final long CONNECT_PAUSE_MS = 5;
     /** How long a commit waits before that is told. */
@@ -77,6 +84,7 @@ public final class Session implements AutoCloseable {
 
     private final SocketAddress address;
     private final Duration timeout;
+    private long maxWidthNs = Long.MAX_VALUE;
     private boolean isClosed;
     /** Whether a lease was ever asked for: then no commit begins without one. */
     private boolean wantsLease;
@@ -160,20 +168,35 @@ public final class Session implements AutoCloseable {
 
     /**
      * Connects to a TCP address or a Unix socket. The time-out is how long connecting, sending, each receiving and the
-     * waiting for a release may take, at least a millisecond. Connecting anew is part of the sending and receiving that follow
-     * it.
+     * waiting for a release may take, at least a millisecond; one of more than 24 days counts as 24 days. Connecting anew is part
+     * of the sending and receiving that follow it.
      */
     public static Session connect(SocketAddress address, Duration timeout) throws IOException {
-        if (timeoutMs(timeout) <= 0) {
+        if (timeout.compareTo(Duration.ofMillis(1)) < 0) {
             throw new IllegalArgumentException("a time-out below a millisecond");
         }
-        Session session = new Session(address, timeout);
+        Session session = new Session(address, atMost(timeout));
         session.connect();
         return session;
     }
 
-    private static int timeoutMs(Duration timeout) {
-        return Math.toIntExact(timeout.toMillis());
+    /**
+     * Has readings that are wider than this refused with 1824, in nanoseconds, also where the machine allows them: {@link #now}
+     * looks at each, {@link #after} and {@link #before} compare with one of that, and before a commit begins one is asked for. The
+     * session itself.
+     */
+    public synchronized Session limitWidth(long maxWidthNs) {
+        this.maxWidthNs = maxWidthNs;
+        return this;
+    }
+
+    private boolean isLimited() {
+        return maxWidthNs != Long.MAX_VALUE;
+    }
+
+    /** A time-out that is not too long. */
+    static Duration atMost(Duration timeout) {
+        return timeout.compareTo(LONGEST) > 0 ? LONGEST : timeout;
     }
 
     private void connect() throws IOException {
@@ -181,7 +204,7 @@ public final class Session implements AutoCloseable {
         SocketChannel made = isUnix ? reached() : SocketChannel.open();
         try {
             if (!isUnix) {
-                made.socket().connect(address, timeoutMs(timeout));
+                made.socket().connect(address, (int) timeout.toMillis());
                 made.setOption(StandardSocketOptions.TCP_NODELAY, true);
             }
             made.configureBlocking(false);
@@ -346,9 +369,17 @@ public final class Session implements AutoCloseable {
     /** The time now. */
     public synchronized Interval now() throws IOException {
         look();
+        return reading();
+    }
+
+    /** {@link #now} on a connection that was looked at. */
+    private Interval reading() throws IOException {
         long[] numbers = answered("now", Map.of("now", 2)).numbers;
         if (numbers[0] > numbers[1]) {
             throw failed("now");
+        }
+        if (numbers[1] - numbers[0] > maxWidthNs) {
+            throw new TrueTime.Refused(TrueTime.Refused.READING_TOO_WIDE);
         }
         return new Interval(numbers[0], numbers[1]);
     }
@@ -356,18 +387,25 @@ public final class Session implements AutoCloseable {
     /** Whether time {@code tNs} has surely passed. */
     public synchronized boolean after(long tNs) throws IOException {
         look();
-        return answered("after " + tNs, YES_OR_NO).word.equals("yes");
+        if (isLimited()) {
+            return Long.compareUnsigned(tNs, reading().earliestNs()) < 0;
+        }
+        return answered("after " + Long.toUnsignedString(tNs), YES_OR_NO).word.equals("yes");
     }
 
     /** Whether time {@code tNs} has surely not arrived. */
     public synchronized boolean before(long tNs) throws IOException {
         look();
-        return answered("before " + tNs, YES_OR_NO).word.equals("yes");
+        if (isLimited()) {
+            return Long.compareUnsigned(tNs, reading().latestNs()) > 0;
+        }
+        return answered("before " + Long.toUnsignedString(tNs), YES_OR_NO).word.equals("yes");
     }
 
     /**
      * Sets the lease: timestamps of commits that begin from now on lie from {@code loNs} to {@code hiNs}, both included.
-     * Refuses with 101 and 102, and then the lease is what it was.
+     * Refuses with 101 and 102, and then the lease is what it was; where there was none, {@link #begin} and {@link #commit} refuse
+     * with 903 until one is set.
      */
     public synchronized void lease(long loNs, long hiNs) throws IOException {
         checkOpen();
@@ -426,6 +464,9 @@ public final class Session implements AutoCloseable {
         look();
         if (isPending()) {
             throw new CommitPending(number, stampNs);
+        }
+        if (isLimited()) {
+            reading();
         }
         boolean isUnsure = state == State.UNSURE;
         waiter = Waiter.NOBODY;
@@ -503,10 +544,10 @@ public final class Session implements AutoCloseable {
 
     /** Sends the line of a commit. The timestamp of one that has none so far has to be at least {@code floorNs}. */
     private void sendCommit(long commit, long floorNs) throws IOException {
-        String line = "commit " + commit + " " + floorNs;
+        String line = "commit " + commit + " " + Long.toUnsignedString(floorNs);
         Reply reply = answered(line, COMMITTED_OR_WAITING);
         long stamp = reply.numbers[1];
-        boolean isRight = commit == number ? stampNs == 0 || stamp == stampNs : stamp >= floorNs;
+        boolean isRight = commit == number ? stampNs == 0 || stamp == stampNs : Long.compareUnsigned(stamp, floorNs) >= 0;
         if (reply.numbers[0] != commit || !isRight) {
             throw failed(line);
         }

@@ -17,6 +17,8 @@ import java.nio.file.attribute.PosixFileAttributes;
 import java.nio.file.attribute.PosixFilePermission;
 import java.util.Arrays;
 import java.util.Map;
+import java.util.concurrent.atomic.AtomicLong;
+import java.util.concurrent.atomic.AtomicReference;
 
 /**
  * The time with an error bound, read from shared memory; a {@link Stamper} gives timestamps for commits by it.
@@ -34,8 +36,11 @@ import java.util.Map;
  * InternalError}, at some moment. A client of {@link #openUnmapped} refuses instead; each of its calls makes three system
  * calls more.
  *
+ * <p>A call that would refuse, or give a reading that is not fresh, looks at the path, at most once a second. Where another
+ * file is there, as behind a restart, the client opens that by the same rules, and answers by it.
+ *
  * <p>Reads version 2 of the format (its first four bytes are TTS2), and refuses a file of version 1 with 1702. Needs Linux
- * on a little-endian 64-bit machine and Java 17 or later. A mapping lives as long as its client object does. {@link System#nanoTime} has to show
+ * on a little-endian 64-bit machine and Java 17 or later. A mapping goes with the collector. {@link System#nanoTime} has to show
  * CLOCK_MONOTONIC, as it does in OpenJDK on Linux.
  */
 public final class TrueTime implements AutoCloseable {
@@ -50,6 +55,7 @@ public final class TrueTime implements AutoCloseable {
     private static final int SLOT_BYTES = 128;
     private static final int USED_BYTES = 72;
     private static final int TRIES = 1000;
+    private static final long LOOK_NS = 1_000_000_000;
     private static final long MAGIC_AND_LENGTH = 0x0000_0140_3253_5454L;
     private static final long LOWEST_BITS = 0x0101_0101_0101_0101L;
     private static final VarHandle WORD = MethodHandles.byteBufferViewVarHandle(long[].class, ByteOrder.LITTLE_ENDIAN);
@@ -78,16 +84,36 @@ public final class TrueTime implements AutoCloseable {
         Map.entry(1821, "the floor, or the lower end of the lease, is further ahead than the machine allows"),
         Map.entry(1822, "the commit is pending no more: its connection broke, or the machine ends"),
         Map.entry(1823, "the machine knows that an assumption of the service is broken"),
-        Map.entry(1824, "the reading is wider than the machine allows"));
+        Map.entry(1824, "the reading is wider than the machine allows, or than max_width of this client"));
 
-    /** One of these is null. */
-    private final ByteBuffer mapped;
-    private final FileChannel file;
-    private volatile boolean isClosed;
+    private final Path path;
+    private final String owner;
+    private final boolean isMapped;
+    private long maxWidthNs = Long.MAX_VALUE;
+    /** What is read; null where the client is closed. */
+    private final AtomicReference<Opened> opened;
+    /** The clock reading from which on the path may be looked at again. */
+    private final AtomicLong nextLookNs = new AtomicLong(Long.MIN_VALUE);
 
-    private TrueTime(ByteBuffer mapped, FileChannel file) {
-        this.mapped = mapped;
-        this.file = file;
+    /** A file that is open, and its identity. The buffer is null where it is not mapped, or else the channel. */
+    private record Opened(ByteBuffer mapped, FileChannel file, Object key) {
+        /** Whether the interrupt of a thread that read it has closed it. */
+        boolean isGone() {
+            return file != null && !file.isOpen();
+        }
+
+        void close() throws IOException {
+            if (file != null) {
+                file.close();
+            }
+        }
+    }
+
+    private TrueTime(Path path, String owner, boolean isMapped) throws IOException {
+        this.path = path.toAbsolutePath();
+        this.owner = owner;
+        this.isMapped = isMapped;
+        opened = new AtomicReference<>(openedAnew());
     }
 
     /**
@@ -144,7 +170,7 @@ public final class TrueTime implements AutoCloseable {
         public static final int COMMIT_GONE = 1822;
         /** The machine knows that an assumption of the service is broken. */
         public static final int BROKEN = 1823;
-        /** The reading is wider than the machine allows. */
+        /** The reading is wider than the machine allows, or than the client does. */
         public static final int READING_TOO_WIDE = 1824;
 
         private static final long serialVersionUID = 1;
@@ -238,8 +264,8 @@ public final class TrueTime implements AutoCloseable {
 
     /** Maps the file at this path, which this user has to own: a name or a number. Refuses with 1701 and 1702. */
     public static TrueTime open(Path path, String owner) {
-        try (FileChannel file = opened(path, owner)) {
-            return new TrueTime(file.map(FileChannel.MapMode.READ_ONLY, 0, BYTES), null);
+        try {
+            return new TrueTime(path, owner, true);
         } catch (IOException failed) {
             throw new Refused(Refused.NO_FILE, failed);
         }
@@ -252,23 +278,33 @@ public final class TrueTime implements AutoCloseable {
 
     /**
      * Opens it as {@link #open}, and each call reads it. An interrupt of a thread in such a call closes the file, as that of
-     * a thread in a {@link FileChannel} does; then all calls refuse with 1701.
+     * a thread in a {@link FileChannel} does: the call refuses with 1701, and the thread still counts as interrupted. Calls of
+     * threads that do not open the file anew.
      */
     public static TrueTime openUnmapped(Path path, String owner) {
         try {
-            return new TrueTime(null, opened(path, owner));
+            return new TrueTime(path, owner, false);
         } catch (IOException failed) {
             throw new Refused(Refused.NO_FILE, failed);
         }
     }
 
+    /**
+     * Has readings that are wider than this refused with 1824, in nanoseconds, and so the timestamps by them; the machine's own
+     * max_width need not be set. Call it before other threads use the client. The client itself.
+     */
+    public TrueTime limitWidth(long maxWidthNs) {
+        this.maxWidthNs = maxWidthNs;
+        return this;
+    }
+
     /** Closes the client: calls refuse with 1701 from now on. The memory of a mapped file goes with the client object. */
     @Override
     public void close() {
-        isClosed = true;
+        Opened of = opened.getAndSet(null);
         try {
-            if (file != null) {
-                file.close();
+            if (of != null) {
+                of.close();
             }
         } catch (IOException failed) {
             throw new UncheckedIOException(failed);
@@ -280,11 +316,98 @@ public final class TrueTime implements AutoCloseable {
      * where it is not mapped and has become shorter, or the client is closed.
      */
     public Publication read() {
-        if (isClosed) {
+        Opened of = opened();
+        try {
+            return readOf(of);
+        } catch (Refused refused) {
+            Opened other = otherThan(of);
+            if (other == null) {
+                throw refused;
+            }
+            return readOf(other);
+        }
+    }
+
+    /** The time now. Refuses as {@link #read}, and with 802 and 1708, and with 1824 by {@link #limitWidth}. */
+    public Reading now() {
+        Opened of = opened();
+        Reading late = null;
+        Refused refused = null;
+        try {
+            late = nowOf(of);
+            if (late.fresh()) {
+                return late;
+            }
+        } catch (Refused failed) {
+            refused = failed;
+        }
+        Opened other = otherThan(of);
+        if (other != null) {
+            return nowOf(other);
+        }
+        if (refused != null) {
+            throw refused;
+        }
+        return late;
+    }
+
+    private Opened opened() {
+        Opened of = opened.get();
+        if (of == null) {
             throw new Refused(Refused.NO_FILE, ": the client is closed");
         }
+        return of;
+    }
+
+    /** Whether the path was not looked at within a second: then the caller does it. */
+    private boolean mayLook() {
+        long next = nextLookNs.get();
+        long nowNs = System.nanoTime();
+        return nowNs >= next && nextLookNs.compareAndSet(next, nowNs + LOOK_NS);
+    }
+
+    /**
+     * What is read in place of this; null where that is still it. Looks at the path, unless it was looked at within a second, and
+     * takes another file that is there, where it passes the checks of opening one. The old one is closed, or goes with the
+     * collector. A file that an interrupt has closed is opened anew at once, by a thread that would not close it again.
+     */
+    private Opened otherThan(Opened of) {
+        Opened found = opened.get();
+        if (found != of) {
+            return found;
+        }
+        boolean isGone = of.isGone();
+        if (Thread.currentThread().isInterrupted() || !isGone && !mayLook()) {
+            return null;
+        }
+        try {
+            if (!isGone && of.key().equals(Files.readAttributes(path, PosixFileAttributes.class, LinkOption.NOFOLLOW_LINKS).fileKey())) {
+                return null;
+            }
+            Opened anew = openedAnew();
+            boolean isTaken = opened.compareAndSet(of, anew);
+            (isTaken ? of : anew).close();
+            return opened.get();
+        } catch (IOException | Refused failed) {
+            return null;
+        }
+    }
+
+    private Reading nowOf(Opened of) {
+        Publication published = readOf(of);
+        // The clock is read after the publication, so it is not below that of the publication.
+        Reading now = published.readAt(System.nanoTime());
+        if (now.latestNs() - now.earliestNs() > maxWidthNs) {
+            throw new Refused(Refused.READING_TOO_WIDE);
+        }
+        return now;
+    }
+
+    private static Publication readOf(Opened of) {
+        ByteBuffer mapped = of.mapped();
+        FileChannel file = of.file();
         for (int tries = 0; tries < TRIES; tries++) {
-            long index = index();
+            long index = index(mapped, file);
             // The publication's count is odd where an odd number of the eight bytes of the index are odd.
             int at = FIRST_SLOT_AT + SLOT_BYTES * (Long.bitCount(index & LOWEST_BITS) & 1);
             ByteBuffer bytes = mapped == null ? bytesAt(file, at, SLOT_BYTES) : mapped;
@@ -298,7 +421,7 @@ public final class TrueTime implements AutoCloseable {
             }
             // The slot was read behind the index, and before the index again.
             VarHandle.acquireFence();
-            if (index() != index) {
+            if (index(mapped, file) != index) {
                 continue;
             }
             if (index == 0) {
@@ -315,14 +438,7 @@ public final class TrueTime implements AutoCloseable {
         throw new Refused(1704);
     }
 
-    /** The time now. Refuses as {@link #read}, and with 802 and 1708. */
-    public Reading now() {
-        Publication published = read();
-        // The clock is read after the publication, so it is not below that of the publication.
-        return published.readAt(System.nanoTime());
-    }
-
-    private long index() {
+    private static long index(ByteBuffer mapped, FileChannel file) {
         return mapped == null ? bytesAt(file, INDEX_AT, Long.BYTES).getLong(0) : (long) WORD.getAcquire(mapped, INDEX_AT);
     }
 
@@ -347,8 +463,8 @@ public final class TrueTime implements AutoCloseable {
         return bytes;
     }
 
-    /** The file at this path, where it is such a file. */
-    private static FileChannel opened(Path path, String owner) throws IOException {
+    /** The file at the path, where it is such a file. */
+    private Opened openedAnew() throws IOException {
         PosixFileAttributes found = Files.readAttributes(path, PosixFileAttributes.class, LinkOption.NOFOLLOW_LINKS);
         if (!found.isRegularFile() || found.size() != BYTES) {
             throw new Refused(Refused.OTHER_FILE, ": it is no file of " + BYTES + " bytes");
@@ -362,12 +478,16 @@ public final class TrueTime implements AutoCloseable {
             throw new Refused(Refused.OTHER_FILE, ": others may write to it");
         }
         FileChannel file = FileChannel.open(path, StandardOpenOption.READ, LinkOption.NOFOLLOW_LINKS);
+        boolean isKept = false;
         try {
             checkHead(bytesAt(file, 0, FIRST_SLOT_AT));
-            return file;
-        } catch (IOException | Refused failed) {
-            file.close();
-            throw failed;
+            isKept = !isMapped;
+            ByteBuffer mapped = isMapped ? file.map(FileChannel.MapMode.READ_ONLY, 0, BYTES) : null;
+            return new Opened(mapped, isMapped ? null : file, found.fileKey());
+        } finally {
+            if (!isKept) {
+                file.close();
+            }
         }
     }
 

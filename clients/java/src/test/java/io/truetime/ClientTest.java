@@ -25,13 +25,14 @@ import java.time.Duration;
 import java.util.ArrayList;
 import java.util.Arrays;
 import java.util.List;
+import java.util.concurrent.atomic.AtomicBoolean;
 import java.util.logging.Handler;
 import java.util.logging.Level;
 import java.util.logging.LogRecord;
 import java.util.logging.Logger;
 import java.util.logging.SimpleFormatter;
 
-/** Tests what is Java's own: causes of refusals, owners, closing, pools, connecting in time, and what is logged. */
+/** Tests what is Java's own: causes of refusals, owners, closing, interrupts, long time-outs, pools, connecting in time, and what is logged. */
 public final class ClientTest {
     private static final Duration TIMEOUT = Duration.ofSeconds(10);
     private static int checks;
@@ -102,6 +103,107 @@ public final class ClientTest {
             client.close();
             check(thrown(client::now) instanceof TrueTime.Refused refused && refused.number() == TrueTime.Refused.NO_FILE, client);
         }
+    }
+
+    /** A file of one publication. */
+    private static byte[] published() throws IOException {
+        long[] words = {1, 0, 5, 15, -1, 7, 1, 0, -1};
+        ByteBuffer bytes = ByteBuffer.wrap(file()).order(ByteOrder.LITTLE_ENDIAN);
+        bytes.putLong(16, 1);
+        for (int place = 0; place < words.length; place++) {
+            bytes.putLong(192 + 8 * place, words[place]);
+        }
+        return bytes.array();
+    }
+
+    /** An interrupt closes a file that is not mapped; it is read all the same once the interrupt is over, also beside another reader. */
+    private static void interruptedReaders(Path room) throws Exception {
+        Path path = room.resolve("time");
+        Files.write(path, published());
+        try (TrueTime client = TrueTime.openUnmapped(path, Files.getOwner(path).getName())) {
+            AtomicBoolean isOver = new AtomicBoolean();
+            Thread other = new Thread(() -> {
+                while (!isOver.get()) {
+                    try {
+                        client.now();
+                    } catch (TrueTime.Refused refused) {
+                        // The file was closed twice meanwhile.
+                    }
+                }
+            });
+            int before = descriptors();
+            other.start();
+            for (int turn = 0; turn < 20; turn++) {
+                Thread.currentThread().interrupt();
+                check(thrown(client::now) instanceof TrueTime.Refused refused && refused.number() == TrueTime.Refused.NO_FILE, turn);
+                check(thrown(client::read) instanceof TrueTime.Refused, turn);
+                check(Thread.interrupted(), turn);
+                check(client.now().epoch() == 7 && client.read().number() == 1, turn);
+            }
+            check(new Stamper(client).awaitPast(1, TIMEOUT), "a wait");
+            isOver.set(true);
+            other.join();
+            check(client.now().epoch() == 7 && descriptors() <= before + 1, before, descriptors());
+        }
+    }
+
+    /** A time-out may be as long as a Duration may. */
+    private static void longTimeouts(Path room) throws Exception {
+        Path path = room.resolve("time");
+        Files.write(path, published());
+        for (Duration timeout : new Duration[] {Duration.ofDays(30), Duration.ofSeconds(Long.MAX_VALUE)}) {
+            try (ServerSocket server = serve(0)) {
+                Pool pool = new Pool(1, timeout, () -> Session.connect(server.getLocalSocketAddress(), timeout));
+                Pool.Lent lent = pool.lend();
+                start(() -> {
+                    pause();
+                    lent.close();
+                });
+                check(pool.commit(0) == 200, timeout);
+                pool.close();
+            }
+            PendingTable table = new PendingTable(new Stamper(TrueTime.open(path, Files.getOwner(path).getName())));
+            long stampNs = table.begin(0);
+            start(() -> {
+                pause();
+                table.written(stampNs);
+            });
+            check(table.makeReadable(stampNs, timeout) && table.release(stampNs, timeout), timeout);
+        }
+        for (Duration timeout : new Duration[] {Duration.ZERO, Duration.ofNanos(999_999), Duration.ofSeconds(Long.MIN_VALUE)}) {
+            check(thrown(() -> Session.connect(new InetSocketAddress(1), timeout)) instanceof IllegalArgumentException, timeout);
+        }
+    }
+
+    private static void pause() {
+        try {
+            Thread.sleep(100);
+        } catch (InterruptedException interrupted) {
+            throw new AssertionError(interrupted);
+        }
+    }
+
+    /** A negative time is sent as what it is unsigned, so that the service says that it is too great. */
+    private static void negativeTimes() throws Exception {
+        List<String> came = new ArrayList<>();
+        try (ServerSocket server = new ServerSocket(0, 50, InetAddress.getLoopbackAddress())) {
+            start(() -> {
+                try (Socket one = server.accept();
+                        BufferedReader lines = new BufferedReader(new InputStreamReader(one.getInputStream(), StandardCharsets.US_ASCII))) {
+                    for (String line = lines.readLine(); line != null; line = lines.readLine()) {
+                        came.add(line);
+                        one.getOutputStream().write("refused 902\n".getBytes(StandardCharsets.US_ASCII));
+                    }
+                }
+            });
+            try (Session session = Session.connect(server.getLocalSocketAddress(), TIMEOUT)) {
+                for (Call call : new Call[] {() -> session.after(-1), () -> session.before(-2), () -> session.begin(-3), () -> session.commit(-4)}) {
+                    check(thrown(call) instanceof TrueTime.Refused refused && refused.number() == TrueTime.Refused.FLOOR_TOO_FAR, came);
+                }
+            }
+        }
+        check(came.equals(List.of("after 18446744073709551615", "before 18446744073709551614", "commit 1 18446744073709551613",
+            "commit 1 18446744073709551612")), came);
     }
 
     /** Serves sessions: a commit is released so long after it was begun, `now` ends the session, `before` is refused. */
@@ -257,6 +359,9 @@ public final class ClientTest {
     public static void main(String[] words) throws Exception {
         Path room = Files.createTempDirectory("truetime");
         causesOfFiles(room);
+        interruptedReaders(room);
+        longTimeouts(room);
+        negativeTimes();
         log();
         pools();
         fullSocket(room);

@@ -16,6 +16,7 @@ import java.util.HashSet;
 import java.util.List;
 import java.util.OptionalLong;
 import java.util.Queue;
+import java.util.TreeSet;
 import java.util.concurrent.Callable;
 import java.util.concurrent.ConcurrentLinkedQueue;
 import java.util.concurrent.CyclicBarrier;
@@ -27,6 +28,7 @@ import java.util.concurrent.TimeUnit;
 import java.util.concurrent.atomic.AtomicBoolean;
 import java.util.concurrent.atomic.AtomicInteger;
 import java.util.function.Supplier;
+import java.util.stream.Collectors;
 
 /** What reader, stamper and sessions answer, for the tests: as ../../c/test/probe.c. */
 public final class Probe {
@@ -80,9 +82,10 @@ public final class Probe {
     private static Session opened(String address) throws IOException {
         String[] words = address.split(" ");
         Duration timeout = Duration.ofMillis(Long.parseLong(words[2]));
-        return words[0].equals("unix")
+        Session session = words[0].equals("unix")
             ? Session.connect(UnixDomainSocketAddress.of(words[1]), timeout)
             : Session.connect(new InetSocketAddress("127.0.0.1", Integer.parseInt(words[1])), timeout);
+        return words.length == 4 ? session.limitWidth(Long.parseLong(words[3])) : session;
     }
 
     /** What a call of a session gives. */
@@ -180,12 +183,13 @@ public final class Probe {
         return numbers;
     }
 
-    /** The stamp behind the last one, 0 where none was given, by the reading [_, LATEST]. */
+    /** The stamp behind the last one, 0 where none was given, by the reading [_, LATEST], with limits where the row has some. */
     private static String row(long[] n) {
         new Stamper(null, n[4], n[5]);
         // Behind the greatest number there is none, and each past the greatest time is as good.
         long free = n[0] == 0 || n[0] == -1 ? n[0] : n[0] + 1;
-        return "stamp " + Long.toUnsignedString(Stamper.stampOf(free, n[2], n[3], n[4], n[5], Stamper.MAX_AHEAD_NS, 1));
+        long[] limits = n.length == 8 ? new long[] {n[6], n[7]} : new long[] {Stamper.MAX_AHEAD_NS, 1};
+        return "stamp " + Long.toUnsignedString(Stamper.stampOf(free, n[2], n[3], n[4], n[5], limits[0], limits[1]));
     }
 
     private static String stamp(Stamper stamper, long floorNs) {
@@ -520,6 +524,90 @@ public final class Probe {
         }
     }
 
+    /** Threads that read again and again, and what they saw. */
+    private static final class Rereading {
+        private final AtomicBoolean isOver = new AtomicBoolean();
+        private final List<Thread> threads = new ArrayList<>();
+        private final Queue<Long> epochs = new ConcurrentLinkedQueue<>();
+        private final AtomicInteger torn = new AtomicInteger();
+        private final AtomicInteger refused = new AtomicInteger();
+
+        Rereading(TrueTime client, int count) {
+            for (int number = 0; number < count; number++) {
+                Thread thread = new Thread(() -> reread(client));
+                threads.add(thread);
+                thread.start();
+            }
+        }
+
+        private void reread(TrueTime client) {
+            long last = 0;
+            while (!isOver.get()) {
+                try {
+                    TrueTime.Reading now = client.now();
+                    if (now.epoch() != last) {
+                        last = now.epoch();
+                        epochs.add(last);
+                    }
+                    if (now.latestNs() - now.earliestNs() != now.epoch()) {
+                        torn.incrementAndGet();
+                    }
+                } catch (TrueTime.Refused failed) {
+                    refused.incrementAndGet();
+                }
+            }
+        }
+
+        String end() throws InterruptedException {
+            isOver.set(true);
+            for (Thread thread : threads) {
+                thread.join();
+            }
+            String seen = new TreeSet<>(epochs).stream().map(epoch -> epoch + " ").collect(Collectors.joining());
+            return seen + "seen, " + torn + " torn, " + refused + " refused";
+        }
+    }
+
+    private static void tryRenewals(BufferedReader lines) throws IOException, InterruptedException {
+        String user = System.getProperty("user.name");
+        TrueTime client = null;
+        Stamper stamper = null;
+        Rereading running = null;
+        for (String line = lines.readLine(); line != null; line = lines.readLine()) {
+            String[] words = line.split(" ");
+            String said = "rested";
+            try {
+                if (words[0].equals("open")) {
+                    Path path = Path.of(words[2]);
+                    client = words[1].equals("mapped") ? TrueTime.open(path, user) : TrueTime.openUnmapped(path, user);
+                    if (words.length == 4) {
+                        client.limitWidth(Long.parseLong(words[3]));
+                    }
+                    stamper = new Stamper(client);
+                    said = "open";
+                } else if (words[0].equals("stamp")) {
+                    said = Long.toString(stamper.stamp(0).stampNs());
+                } else if (words[0].equals("now")) {
+                    TrueTime.Reading now = client.now();
+                    said = now.epoch() + " " + (now.latestNs() - now.earliestNs()) + (now.fresh() ? " fresh" : " stale");
+                } else if (words[0].equals("threads")) {
+                    running = new Rereading(client, Integer.parseInt(words[1]));
+                    said = "started";
+                } else if (words[0].equals("end")) {
+                    said = running.end();
+                } else if (words[0].equals("close")) {
+                    client.close();
+                    said = "closed";
+                } else {
+                    System.gc();
+                }
+            } catch (TrueTime.Refused refused) {
+                said = "refused " + refused.number();
+            }
+            System.out.println(said);
+        }
+    }
+
     public static void main(String[] words) throws Exception {
         if (words.length == 2 && words[0].equals("open")) {
             System.out.println(published(() -> TrueTime.open(Path.of(words[1]), System.getProperty("user.name"))));
@@ -548,6 +636,10 @@ public final class Probe {
         }
         if (words.length == 1 && words[0].equals("openings")) {
             tryOpenings(lines);
+            return;
+        }
+        if (words.length == 1 && words[0].equals("renewals")) {
+            tryRenewals(lines);
             return;
         }
         StringBuilder answers = new StringBuilder();

@@ -1,0 +1,38 @@
+\set VERBOSITY terse
+CREATE TABLE plain(id int PRIMARY KEY);
+CREATE ROLE tt_writer;
+GRANT INSERT ON plain TO tt_writer;
+SET ROLE tt_writer;
+SELECT truetime.request();
+RESET ROLE;
+GRANT USAGE ON SCHEMA truetime TO tt_writer;
+SET ROLE tt_writer;
+SET truetime.commit_wait = off;
+SET truetime.stamp = 'all';
+SET truetime.last_commit = '5';
+SELECT truetime.adopt(5000);
+SELECT truetime.request(5);
+SELECT truetime.commit_timestamp(5);
+SELECT truetime.emit_watermark();
+SELECT truetime.claim_lease();
+BEGIN; INSERT INTO plain VALUES (1); SELECT truetime.request(); COMMIT;
+BEGIN; INSERT INTO plain VALUES (2); SELECT truetime.commit_timestamp() > 0 AS told; COMMIT;
+RESET ROLE;
+SELECT count(*) FROM plain WHERE truetime.stamp_of(xmin) IS NOT NULL;
+GRANT SET ON PARAMETER truetime.stamp TO tt_writer;
+SET ROLE tt_writer;
+SET truetime.stamp = 'all';
+INSERT INTO plain VALUES (3);
+RESET ROLE;
+RESET truetime.stamp;
+SELECT truetime.stamp_of(xmin) = truetime.last_commit() AS stamped FROM plain WHERE id = 3;
+SET truetime.no_such = 1;
+SET truetime.lease = '5 6';
+-- without the wait
+SET truetime.commit_wait = off;
+BEGIN; SELECT truetime.request(latest + 500000000) FROM truetime.now(); COMMIT;
+SELECT truetime.after(truetime.last_commit()) AS passed;
+RESET truetime.commit_wait;
+DROP TABLE plain;
+DROP OWNED BY tt_writer;
+DROP ROLE tt_writer;
