@@ -118,7 +118,7 @@ static void run_stamper(tt_client *client, tt_stamper *stamper, unsigned long gi
 
 static void *use(void *number) {
     long at = *(long *)number;
-    tt_client client = {.words = NULL};
+    tt_client client = {.place = NULL};
     tt_stamper stamper;
     tt_stamper_open(&stamper, &client, 0, TT_MAX_TIME_NS);
     while (!is_over()) {

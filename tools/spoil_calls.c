@@ -2,26 +2,37 @@
  * the monotonic clock shows ten seconds less (`clock`), no packet is received (`receive`), none is sent to port N (`send-N`), sending
  * one lasts until the file is gone (`sending`), and so do a rename (`rename`), a write at a place of a file (`writing`), a look for the
  * addresses of a name (`lookup`) and a look at the real-time clock (`telling`); a connection takes seven bytes at a time (`few`); there are
- * no random bytes (`random`), and no IPv6 (`six`); a sleep lasts a hundredth of its time (`hasty`). Each look for addresses adds a byte to the file `lookups`, if it is there, and finds
- * those that the file `addresses` has, if that is there. It stands before the C library by LD_PRELOAD.
+ * no random bytes (`random`), no IPv6 (`six`) and no memory (`memory`); a sleep lasts a hundredth of its time (`hasty`). No change of what
+ * is waited for is taken (`watch`), and none of that is waited for (`events`). Each look for addresses adds a byte to the file `lookups`,
+ * if it is there, and finds those that the file `addresses` has, if that is there; each reading of the monotonic clock adds one to
+ * `readings`. It stands before the C library by LD_PRELOAD.
  *
  * Others say in their file what is shown. `course` has lines FROM SHOWN RATE, in nanoseconds and parts per million: once the monotonic
  * clock shows FROM it shows SHOWN, and runs by RATE faster; so it stands still by a RATE of -1000000. /proc/uptime goes with that clock, as
  * in a guest that is paused, and shows besides as many nanoseconds more as `uptime` says, as after a suspend; it cannot be read by
- * `no-uptime`. `timens` is what stands in /proc/self/timens_offsets. All programs that have the same folder see the same clock. */
+ * `no-uptime`. `timens` is what stands in /proc/self/timens_offsets. `unread` has a sign for each reading of the monotonic clock from when
+ * it is there: that of an x fails, and behind its end the last sign counts. `date` has the nanoseconds since 1970 that the real-time clock
+ * shows. All programs that have the same folder see the same clock. */
 #define _GNU_SOURCE
 #include <dlfcn.h>
 #include <errno.h>
 #include <fcntl.h>
 #include <netdb.h>
 #include <netinet/in.h>
+#include <stdatomic.h>
 #include <stdio.h>
 #include <stdlib.h>
 #include <string.h>
+#include <sys/epoll.h>
 #include <sys/socket.h>
 #include <sys/syscall.h>
 #include <time.h>
 #include <unistd.h>
+
+extern void *__libc_malloc(size_t);
+extern void *__libc_calloc(size_t, size_t);
+extern void *__libc_realloc(void *, size_t);
+extern void *__libc_memalign(size_t, size_t);
 
 enum { PATH_BYTES = 4096, FEW = 7 };
 
@@ -84,11 +95,43 @@ static long long ahead_at(long long now) {
     return ahead - (is_spoiled("clock") ? LESS : 0);
 }
 
+/* Adds a byte to the file of a kind, if it is there. */
+static void count_in(const char *kind) {
+    char path[PATH_BYTES];
+    int error = errno, file = (int)syscall(SYS_openat, AT_FDCWD, path_of(kind, path), O_WRONLY | O_APPEND | O_CLOEXEC);
+    if (file >= 0) syscall(SYS_write, file, ".", 1);
+    if (file >= 0) syscall(SYS_close, file);
+    errno = error;
+}
+
+/* Whether this reading of the monotonic clock fails. */
+static int is_unread(void) {
+    static atomic_long readings;
+    char signs[PATH_BYTES];
+    ssize_t length = content_of("unread", signs, sizeof signs);
+    if (length <= 0) {
+        readings = 0;
+        return 0;
+    }
+    long number = readings++;
+    return signs[number < length ? number : length - 1] == 'x';
+}
+
+/* What the real-time clock shows: by its file, or else this. */
+static long long date_of(long long now) {
+    char text[32];
+    ssize_t length = content_of("date", text, sizeof text - 1);
+    text[length < 0 ? 0 : length] = 0;
+    return length > 0 ? atoll(text) : now;
+}
+
 int clock_gettime(clockid_t clock, struct timespec *time) {
     if (clock == CLOCK_REALTIME) last("telling");
+    if (clock == CLOCK_MONOTONIC) count_in("readings");
+    if (clock == CLOCK_MONOTONIC && is_unread()) { errno = EINVAL; return -1; }
     int status = (int)syscall(SYS_clock_gettime, clock, time);
-    if (status == 0 && clock == CLOCK_MONOTONIC) {
-        long long now = nanoseconds_in(*time), shown = now + ahead_at(now);
+    if (status == 0 && (clock == CLOCK_MONOTONIC || clock == CLOCK_REALTIME)) {
+        long long now = nanoseconds_in(*time), shown = clock == CLOCK_MONOTONIC ? now + ahead_at(now) : date_of(now);
         time->tv_sec = shown / SECOND;
         time->tv_nsec = shown % SECOND;
     }
@@ -182,6 +225,50 @@ int nanosleep(const struct timespec *wanted, struct timespec *left) {
     return rest(&time, left);
 }
 
+int epoll_ctl(int poll, int act, int file, struct epoll_event *event) {
+    if (is_spoiled("watch")) { errno = ENOSPC; return -1; }
+    return (int)syscall(SYS_epoll_ctl, poll, act, file, event);
+}
+
+int epoll_wait(int poll, struct epoll_event *events, int most, int wait) {
+    if (is_spoiled("events")) { errno = EBADF; return -1; }
+    int (*next)(int, struct epoll_event *, int, int);
+    *(void **)&next = dlsym(RTLD_NEXT, "epoll_wait");
+    return next(poll, events, most, wait);
+}
+
+/* The calls that take memory. Those of the loader come before main. */
+static int has_begun;
+
+__attribute__((constructor)) static void begin(void) { has_begun = 1; }
+
+static int has_memory(void) {
+    return !has_begun || !is_spoiled("memory");
+}
+
+void *malloc(size_t size) {
+    return has_memory() ? __libc_malloc(size) : NULL;
+}
+
+void *calloc(size_t count, size_t size) {
+    return has_memory() ? __libc_calloc(count, size) : NULL;
+}
+
+void *realloc(void *old, size_t size) {
+    return has_memory() ? __libc_realloc(old, size) : NULL;
+}
+
+void *aligned_alloc(size_t align, size_t size) {
+    return has_memory() ? __libc_memalign(align, size) : NULL;
+}
+
+int posix_memalign(void **place, size_t align, size_t size) {
+    void *found = has_memory() ? __libc_memalign(align, size) : NULL;
+    if (!found) return ENOMEM;
+    *place = found;
+    return 0;
+}
+
 int rename(const char *from, const char *to) {
     last("rename");
     return (int)syscall(SYS_rename, from, to);
@@ -189,10 +276,8 @@ int rename(const char *from, const char *to) {
 
 int getaddrinfo(const char *name, const char *service, const struct addrinfo *hints, struct addrinfo **found) {
     int (*look)(const char *, const char *, const struct addrinfo *, struct addrinfo **);
-    char path[PATH_BYTES], text[PATH_BYTES], *rest = NULL;
-    int file = open(path_of("lookups", path), O_WRONLY | O_APPEND | O_CLOEXEC);
-    if (file >= 0) syscall(SYS_write, file, ".", 1);
-    if (file >= 0) close(file);
+    char text[PATH_BYTES], *rest = NULL;
+    count_in("lookups");
     last("lookup");
     *(void **)&look = dlsym(RTLD_NEXT, "getaddrinfo");
     ssize_t length = content_of("addresses", text, sizeof text - 1);

@@ -276,9 +276,9 @@ class Spoils:
         os.rename(draft, self.path(kind))
 
     @contextlib.contextmanager
-    def spoiled(self, kind):
-        """Calls of this kind are spoiled as long as this lasts."""
-        self.tell(kind)
+    def spoiled(self, kind, text=""):
+        """Calls of this kind are spoiled as long as this lasts, by this text."""
+        self.tell(kind, text)
         try:
             yield
         finally:

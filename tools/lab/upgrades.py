@@ -68,14 +68,13 @@ class Upgrade:
 
 
 def keys_unknown_to(program: str) -> typing.Iterator[str]:
-    """The keys of docs/FORMATS.md that this program refuses as unknown."""
-    section = read_text(in_top("docs/FORMATS.md")).partition("\n## 15. ")[2].partition("\n## ")[0]
+    """The keys of docs/reference/settings.md that this program refuses as unknown, but for those of a master's table."""
+    listed = read_text(in_top("docs/reference/settings.md")).partition("\nIn each table ")[0]
     with tempfile.TemporaryDirectory() as room:
-        for line in re.findall(r"^- (`[a-z].*?`): ", section, re.MULTILINE):
-            for key in re.findall(r"`([a-z_]+)`", line):
-                write(f"{room}/node.toml", "".join(f"{name} = {value}\n" for name, value in {**NEEDED, key: NEEDED.get(key, "1")}.items()).encode())
-                if run([program, "serve", "--check", f"{room}/node.toml"]).said == UNKNOWN_KEY:
-                    yield key
+        for key in re.findall(r"^\| `([a-z_]+)` \|", listed, re.MULTILINE):
+            write(f"{room}/node.toml", "".join(f"{name} = {value}\n" for name, value in {**NEEDED, key: NEEDED.get(key, "1")}.items()).encode())
+            if run([program, "serve", "--check", f"{room}/node.toml"]).said == UNKNOWN_KEY:
+                yield key
 
 
 def options_unknown_to(program: str, other: str) -> list[str]:

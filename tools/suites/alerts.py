@@ -1,11 +1,11 @@
 """Checks the rules of Prometheus and the dashboard of Grafana in packaging/.
 
 - promtool takes the rules, and packaging/alerts_test.yml says of each alert when it fires and when not. The settings at their top are the
-  defaults of docs/FORMATS.md, and those that stand there in their place are followed.
-- Each metric that rules or dashboard name, with its labels, is in the status of a machine that runs, and each one that docs/OPERATING.md
-  calls an alarm is in a rule.
-- By the statuses of a machine that runs nothing fires; once three of its five masters are cut, and once it is stopped, what docs/OPERATING.md
-  says of that does.
+  defaults of docs/reference/settings.md, and those that stand there in their place are followed.
+- Each metric that rules or dashboard name, with its labels, is in the status of a machine that runs. Each alert says what to do, and where
+  docs/reference/alerts.md has it.
+- By the statuses of a machine that runs nothing fires; once three of its five masters are cut, and once it is stopped, the alerts that
+  are meant for that do.
 - Each rule and each panel is one that was meant (alerts_of_rules.py, alerts_of_panels.py).
 - promtool takes each expression of the dashboard. No Grafana is here: its JSON is compared with what a dashboard of schema 38 has to have,
   as Grafana's documents of its JSON model say, and was not opened in one.
@@ -28,7 +28,8 @@ suite = Suite(__name__, at_once=4, longest_s=60, again=1)
 RULES, TESTS, DASHBOARD = "packaging/alerts.yml", "packaging/alerts_test.yml", "packaging/dashboard.json"
 FIRING = 'count by (alertname, machine, source) (ALERTS{alertstate="firing"})'
 # Settings that are no defaults, and those by which the machine of this suite runs: a round takes a quarter of a second.
-OTHER = {"truetime:round_seconds": "10", "truetime:drift_ratio": "0.001", "truetime:max_width_seconds": "1", "truetime:warn_width_seconds": "0.1"}
+OTHER = {"truetime:round_seconds": "10", "truetime:drift_ratio": "0.001", "truetime:faulty": "0", "truetime:max_width_seconds": "1",
+         "truetime:warn_width_seconds": "0.1"}
 # The alerts that never fire by the defaults: `settings` provokes them.
 UNLIMITED = {"TruetimeWide", "TruetimeMasterWide"}
 POLL, WAIT, ROUND_S = "150ms", "100ms", 0.25
@@ -126,12 +127,12 @@ def rules(trial):
 @suite.case(programs=("promtool",))
 def settings(trial):
     """Other settings at the top of the rules, in which each has its effect. Those that stand there are the defaults."""
-    formats = read_text("docs/FORMATS.md")
-    trial.check("default of --warn-width", "--warn-width NS" in formats, "docs/FORMATS.md has no such option")
+    trial.check("default of --warn-width", "[--warn-width NS]" in read_text("docs/reference/commands.md"), "there is no such option")
+    listed = read_text("docs/reference/settings.md")
     for name, default in ("poll", '`"1s"`'), ("wait", '`"250ms"`'), ("drift", "200"), ("max_width", "no limit"):
-        found = re.search(rf"^- `{name}`: .*\({re.escape(default)}\)", formats, re.MULTILINE)
-        trial.check(f"default of {name}", found, f"it is {default} in {RULES}, and another one in docs/FORMATS.md")
-    defaults = {"truetime:round_seconds": "1.25", "truetime:drift_ratio": "0.0002", "truetime:max_width_seconds": "Inf",
+        found = re.search(rf"^\| `{name}` \|[^|]*\|[^|]*\| {re.escape(default)} \|", listed, re.MULTILINE)
+        trial.check(f"default of {name}", found, f"it is {default} in {RULES}, and another one in docs/reference/settings.md")
+    defaults = {"truetime:round_seconds": "1.25", "truetime:drift_ratio": "0.0002", "truetime:faulty": "1", "truetime:max_width_seconds": "Inf",
                 "truetime:warn_width_seconds": "Inf"}
     trial.equal("defaults", settings_in(read_text(RULES)), defaults)
     try_rules(trial, "other settings", OTHER, [{"interval": "15s", "input_series": [
@@ -141,7 +142,8 @@ def settings(trial):
         {"series": 'truetime_source_clock_rate_ratio{machine="0",source="1"}', "values": "0.0019x40 0.0021x40"},
         {"series": 'truetime_source_clock_rate_error_ratio{machine="0",source="1"}', "values": "0.001x80"},
     ], "promql_expr_test": [fires("10m"), fires("15m", '{alertname="TruetimeWide",machine="0"}', '{alertname="TruetimeFusionOld",machine="0"}',
-                                                '{alertname="TruetimeClockRate",machine="0",source="1"}',
+                                                '{alertname="TruetimeClockRate",machine="0"}',
+                                                '{alertname="TruetimeSourceRate",machine="0",source="1"}',
                                                 '{alertname="TruetimeMasterWide",source="1"}')]}])
 
 
@@ -178,17 +180,16 @@ def cut(trial):
 
 @suite.case()
 def metrics(trial):
-    """What rules and dashboard name is in a status, and each alarm of docs/OPERATING.md in a rule."""
+    """What rules and dashboard name is in a status, and each alert has its place in docs/reference/alerts.md."""
     of_machine, of_master = labels_of_metrics(trial)
-    known, alerts, section = of_machine | of_master, list(alerts_in(read_text(RULES))), alarms()
+    known, alerts, runbooks = of_machine | of_master, list(alerts_in(read_text(RULES))), read_text("docs/reference/alerts.md")
     for alert in alerts:
         trial.check(alert.name, alert.metrics or "node_textfile_mtime_seconds" in alert.expr, "no metric of the status")
         trial.equal(f"{alert.name}: metrics that no status has", alert.metrics - known.keys(), set())
         labels = set.intersection(*(known[name] for name in alert.metrics & known.keys())) if alert.metrics else {"file"}
         named = set(re.findall(r"\$labels\.(\w+)", alert.text))
         trial.equal(f"{alert.name}: labels that it does not have", named - labels - {"instance"}, set())
-        runbook = re.search(r'runbook: "OPERATING\.md, section 3: ([a-z_ ]+)"', alert.text)
-        trial.check(alert.name, runbook and (f"`{runbook[1]}" in section or f"- {runbook[1]} " in section), "its runbook is no alarm of section 3")
+        trial.check(alert.name, f"\n## {alert.name}\n" in runbooks, "docs/reference/alerts.md does not have it")
         trial.equal(f"{alert.name}: metrics in its words", set(re.findall(r"\btruetime_\w+", alert.text)) - known.keys(), set())
     dashboard = json.loads(read_text(DASHBOARD))
     panels = [target["expr"] for panel in dashboard["panels"] for target in panel.get("targets", ())]
@@ -196,7 +197,7 @@ def metrics(trial):
     trial.equal("metrics of the dashboard that no status has", shown - known.keys(), set())
     trial.equal("metrics that it does not show", {name for name in known.keys() - shown if not name.endswith(("_sum", "_count"))}, set())
     try_hosts(trial, dashboard, of_machine, of_master)
-    try_operating(trial, known, alerts)
+    trial.note(f"{len(known)} metrics of a status, {len(set().union(*(alert.metrics for alert in alerts)))} in rules; {len(trial.result.wrong)} wrong")
 
 
 def try_hosts(trial, dashboard, of_machine, of_master):
@@ -207,32 +208,6 @@ def try_hosts(trial, dashboard, of_machine, of_master):
     for what, names in ("machine", of_machine), ("master", of_master):
         trial.check(f"hosts of a {what}", any(re.fullmatch(found[1], name) for name in names) if found else False, "they are not listed")
     trial.equal("machines", variables["machine"], "label_values(truetime_epoch, machine)")
-
-
-def alarms():
-    """Section 3 of docs/OPERATING.md."""
-    return read_text("docs/OPERATING.md").split("\n## 3.")[1].split("\n## 4.")[0]
-
-
-def try_operating(trial, known, alerts):
-    """Each alarm of section 3 has its rule, and each rule its alarm."""
-    in_rules, in_section = set().union(*(alert.metrics for alert in alerts)), set()
-    for line in re.findall("^- (.*)", alarms(), re.MULTILINE):
-        what = f"docs/OPERATING.md, {line[:40]}.."
-        alarm, named = (metrics_in(text, known) for text in (line.partition(": ")[0], line))
-        in_section |= named
-        trial.check(what, alarm or line.startswith("the file is older"), "it names no metric")
-        trial.check(what, {name for name in alarm if not name.endswith(("_bucket", "_count"))} <= in_rules, f"no rule for one of {sorted(alarm)}")
-        rest = {name for name in named - alarm - in_rules if not any(name in alert.text for alert in alerts)}
-        trial.equal(f"{what}: metrics of which no rule speaks", rest, set())
-    trial.equal("metrics of rules that docs/OPERATING.md does not name", in_rules - in_section, set())
-    trial.note(f"{len(known)} metrics of a status, {len(in_rules)} in rules; {len(trial.result.wrong)} wrong")
-
-
-def metrics_in(text, known):
-    """The metrics that a text names without `truetime_`; of a histogram all its parts."""
-    names = {f"truetime_{name}" for name in re.findall(r"`(\w+)(?:\{[^`]*\})?`", text)}
-    return {name for name in known if name in names or re.sub("_(sum|count|bucket)$", "", name) in names}
 
 
 # The dashboard.

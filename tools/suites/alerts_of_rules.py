@@ -24,6 +24,7 @@ def against_hour(now, before, more):
 
 
 MEAN = "rate(truetime_commit_wait_seconds_sum[{0}]) / rate(truetime_commit_wait_seconds_count[{0}])"
+PAST_DRIFT = "abs(truetime_source_clock_rate_ratio) - truetime_source_clock_rate_error_ratio > scalar(truetime:drift_ratio)"
 WANTED = {
     "TruetimeStatusOld": (f"timestamp(node_textfile_mtime_seconds{STATUS}) - node_textfile_mtime_seconds > 4 * scalar(truetime:round_seconds)",
                           "1m", PAGE),
@@ -34,8 +35,8 @@ WANTED = {
     "TruetimeSourcesOld": (not_within("needed_answer_age_seconds"), "30s", PAGE),
     "TruetimeRoundsStale": (risen("rounds_stale_total"), AT_ONCE, TICKET),
     "TruetimeSourceOld": (not_within("source_answer_age_seconds"), "1m", TICKET),
-    "TruetimeClockRate": ("abs(truetime_source_clock_rate_ratio) - truetime_source_clock_rate_error_ratio > scalar(truetime:drift_ratio)",
-                          "1m", PAGE),
+    "TruetimeClockRate": (f"count without (source) ({PAST_DRIFT}) > scalar(truetime:faulty)", "1m", PAGE),
+    "TruetimeSourceRate": (PAST_DRIFT, "1m", TICKET),
     "TruetimeSourceSuspect": ("truetime_source_suspect == 1", "1m", TICKET),
     "TruetimeNoTimePossible": (risen('fusions_refused_total{number="504"}'), AT_ONCE, PAGE),
     "TruetimeFusionOld": (not_within("fusion_age_seconds"), "1m", PAGE),
@@ -58,7 +59,7 @@ WANTED = {
     "TruetimeRecordsLeftOut": (risen("records_left_out_total"), AT_ONCE, TICKET),
     "TruetimeLinesRefused": (risen("lines_refused_total"), AT_ONCE, TICKET),
 }
-SETTINGS = {"truetime:round_seconds", "truetime:drift_ratio", "truetime:max_width_seconds", "truetime:warn_width_seconds"}
+SETTINGS = {"truetime:round_seconds", "truetime:drift_ratio", "truetime:faulty", "truetime:max_width_seconds", "truetime:warn_width_seconds"}
 
 
 @suite.case()
@@ -81,7 +82,7 @@ PLACES = {"machine": "[Mm]achine %s", "source": "[Ss]ource %s", "instance": "(on
 # What the words of an alert show; where nothing stands here, the machine and its host.
 OF_MACHINE, OF_SOURCE, OF_MASTER = {"machine", "instance"}, {"machine", "instance", "source"}, {"source", "instance"}
 SHOWN = {
-    **dict.fromkeys(("TruetimeSourceOld", "TruetimeClockRate", "TruetimeSourceSuspect", "TruetimePacketsUnsent"), OF_SOURCE),
+    **dict.fromkeys(("TruetimeSourceOld", "TruetimeSourceRate", "TruetimeSourceSuspect", "TruetimePacketsUnsent"), OF_SOURCE),
     "TruetimeSourceRefused": OF_SOURCE | {"number"}, "TruetimePacketsUnopened": OF_SOURCE | {"number"},
     "TruetimeStatusOld": {"file", "instance", "duration"}, "TruetimeStatusGone": {"file", "instance"}, "TruetimeRestarted": OF_MACHINE | {"value"},
     "TruetimeWide": OF_MACHINE | {"duration"}, "TruetimeMasterSilent": OF_MASTER | {"number"}, "TruetimeMasterWide": OF_MASTER | {"duration"},
@@ -92,11 +93,14 @@ VALUES = {"$value": "value", "$value | humanizeDuration": "duration"}
 
 @suite.case()
 def words_of_alerts(trial):
-    """Each alert names the alarm of the first metric of its rule, and shows whose it is, each label where it belongs, and how much."""
+    """Each alert names its place among the runbooks, says what to do, and shows whose it is, each label where it belongs, and how much."""
     for alert in alerts_in(read_text(RULES)):
-        runbook, summary = re.search(r'annotations: \{runbook: "(.*?)", summary: "(.*?)"\}', alert.text).groups()
-        metric = re.search(r"\btruetime_(\w+?)(_sum)?\b", alert.expr) if alert.metrics else None
-        trial.equal(f"{alert.name}: runbook", runbook, f"OPERATING.md, section 3: {metric[1] if metric else 'the file'}")
+        notes = dict(re.findall(r'^ +(\w+): "(.*)"$', alert.text, re.MULTILINE))
+        trial.equal(f"{alert.name}: annotations", list(notes), ["runbook", "summary", "description"])
+        trial.equal(f"{alert.name}: runbook", notes["runbook"], f"reference/alerts.md#{alert.name.lower()}")
+        trial.check(f"{alert.name}: description", len(notes["description"].split()) >= 10, "it says too little of what to do")
+        trial.equal(f"{alert.name}: what the description fills in", re.findall(r"\{\{.*?\}\}", notes["description"]), [])
+        summary = notes["summary"]
         shown = {VALUES.get(one, one.removeprefix("$labels.")) for one in re.findall(r"\{\{ (.*?) \}\}", summary)}
         trial.equal(f"{alert.name}: what is shown", shown, SHOWN.get(alert.name, OF_MACHINE))
         for label in PLACES.keys() & shown:

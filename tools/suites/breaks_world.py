@@ -135,7 +135,7 @@ class World:
     """Masters and a machine over them whose clock can be spoiled, with its unit and its clients."""
 
     def __init__(self, trial, sources=3, **settings):
-        self.trial, self.spoils = trial, Spoils(trial.room)
+        self.trial, self.spoils, self.others = trial, Spoils(trial.room), 0
         self.sources = [trial.keep(Source()) for _ in range(sources)] if isinstance(sources, int) else sources
         settings = {"poll": "25ms", "wait": "50ms", "evidence": os.path.join(trial.room, "A", "evidence"), **settings}
         self.node = trial.node(self.sources, **settings)
@@ -175,8 +175,10 @@ class World:
     def start_of_another(self):
         """How long a start may take now, which is measured by another machine over masters of its own."""
         took = []
-        for name in ("first", "second"):
-            began, node = time.monotonic_ns(), self.trial.running_node(self.trial.fakes(*[honest] * 3), name, poll="25ms", wait="50ms")
+        for _ in range(2):
+            self.others += 1
+            began, masters = time.monotonic_ns(), self.trial.fakes(*[honest] * 3)
+            node = self.trial.running_node(masters, f"other-{self.others}", poll="25ms", wait="50ms")
             took.append(time.monotonic_ns() - began)
             node.kill()
         self.trial.note(f"another machine starts in {' and '.join(f'{ns / MILLISECOND:.0f}' for ns in took)} ms")

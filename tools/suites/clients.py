@@ -25,7 +25,7 @@ import threading
 import time
 from concurrent.futures import ThreadPoolExecutor
 
-from harness.program import WARNINGS, in_top, run
+from harness.program import WARNINGS, in_top, run, write
 from harness.suite import Suite
 
 suite = Suite(__name__)
@@ -177,11 +177,14 @@ def files():
         yield name, file_of(1, bad, boot), 0o644, "refused 1703"
 
 
+# Of a session whose greatest width is 10: what is narrow enough, and what is not.
+NARROW, WIDE = ("now", "now 5 15\n"), ("now", "now 5 16\n")
+
 SILENT, CLOSED, AGAIN, LATE, LATE_S = "(silent)", "(closed)", "(again)", "(late)", 3
 # In place of a line and its reply: the client connects anew.
 ANEW = ("(anew)", "")
 
-# Sessions, worked out by hand: the time-out in milliseconds, and the calls of the client. Each has the lines that it sends, with the
+# Sessions, worked out by hand: the time-out in milliseconds, or text of that and a greatest width, and the calls of the client. Each has the lines that it sends, with the
 # reply that the stand-in service gives to each, and what the client says of it, with the number and the timestamp of the commit that an
 # error carries. A reply comes in pieces that `|` cuts and ends with
 # `\n`, or with CLOSED, the end of the connection; SILENT never comes; LATE is a pause; one that begins with AGAIN comes as often as its
@@ -226,6 +229,26 @@ SESSIONS = {
         ("wait", [("commit 2 0", "committed 2 30\n")], "30"),
         ("now", [("now", "refused 65535\n")], "refused 65535"),
         ("now", [("now", "refused 1\n")], "refused 1"),
+    ]),
+    "a greatest width": ("20000 10", [
+        ("now", [NARROW], "5 15"), ("now", [WIDE], "refused 1824"), ("now", [("now", f"now 0 {MAX}\n")], "refused 1824"),
+        ("after 4", [NARROW], "yes"), ("after 5", [NARROW], "no"), ("before 16", [NARROW], "yes"), ("before 15", [NARROW], "no"),
+        ("after 4", [WIDE], "refused 1824"), ("before 17", [WIDE], "refused 1824"), ("after 4", [("now", "refused 801\n")], "refused 801"),
+        ("begin 0", [WIDE], "refused 1824"),
+        ("wait", [], "invalid"),
+        ("begin 0", [("now", "refused 803\n")], "refused 803"),
+        ("begin 0", [NARROW, ("commit 1 0", "waiting 1 200\n")], "200"),
+        ("begin 0", [], "refused 1104 1 200"),
+        ("wait", [("commit 1 0", "committed 1 200\n")], "200"),
+        ("commit 0", [WIDE], "refused 1824"),
+        ("commit 7", [NARROW, ("commit 2 7", "waiting 2 201\n"), ("commit 2 0", "committed 2 201\n")], "201"),
+        ("ask now", [WIDE], "now 5 16"),
+        ("lease 300 400", [("lease 300 400", "leased 300 400\n")], "leased 300 400"),
+        ("commit 0", [("now", CLOSED)], "failed lease"),
+    ]),
+    "no width at all": ("20000 0", [
+        ("now", [("now", "now 5 5\n")], "5 5"), ("now", [("now", "now 5 6\n")], "refused 1824"),
+        ("commit 0", [("now", "now 5 5\n"), ("commit 1 0", "committed 1 200\n")], "200"),
     ]),
     "replies in pieces": (20_000, [
         ("now", [("now", "n|ow |5 1|5|\n")], "5 15"),
@@ -275,7 +298,7 @@ SESSIONS = {
         ("wait", [], "invalid"),
         ("ask now", [ANEW, ("now", "now 5 15\n")], "now 5 15"),
     ]),
-    "not released in time": (1000, [
+    "not released in time": (900, [  # less than after what a long wait is told
         ("begin 0", [("commit 1 0", "waiting 1 200\n")], "200"),
         ("wait", [("commit 1 0", AGAIN + "waiting 1 200\n")], "timed out"),
         ("now", [("now", "now 5 15\n")], "5 15"),
@@ -483,6 +506,39 @@ def java_sources():
     return sorted(glob.glob(os.path.join(CLIENTS, "java/src/*/java/io/truetime/*.java")))
 
 
+# Where Debian's librust-tokio-dev puts what it has.
+REGISTRY = "/usr/share/cargo/registry"
+
+
+def has_tokio():
+    """Whether tokio for Rust is here, as Debian has it."""
+    return bool(glob.glob(f"{REGISTRY}/tokio-1.*"))
+
+
+def registry_for_cargo(room):
+    """The words by which cargo fetches nothing: tokio is Debian's, or where that is not here an empty one, for crates that do not use it."""
+    registry = REGISTRY
+    if not has_tokio():
+        registry = os.path.join(room, "registry")
+        os.makedirs(os.path.join(registry, "tokio-1.24.2", "src"), exist_ok=True)
+        for name, text in [("Cargo.toml", '[package]\nname = "tokio"\nversion = "1.24.2"\n\n[features]\nnet = []\nrt = []\ntime = []\n'),
+                           ("src/lib.rs", ""), (".cargo-checksum.json", '{"files": {}}')]:
+            write(os.path.join(registry, "tokio-1.24.2", name), text.encode())
+    return ["--offline", "--config", 'source.crates-io.replace-with="here"', "--config", f'source.here.directory="{registry}"']
+
+
+def build_with_tokio(room, rust, made):
+    """Compiles the probe of Rust with its session for tokio, where that is here."""
+    if not has_tokio():
+        print("clients: Rust tokio is left out: librust-tokio-dev is not here", flush=True)
+    elif is_here("cargo", "Rust tokio"):
+        copy = shutil.copytree(rust, os.path.join(room, "rust-tokio"), ignore=shutil.ignore_patterns("target", "Cargo.lock"))
+        env = {**os.environ, "CARGO_TARGET_DIR": os.path.join(copy, "target"), "RUSTFLAGS": "-D warnings", "CARGO_PROFILE_DEV_DEBUG": "0"}
+        words = ["cargo", "build", "-q", *registry_for_cargo(room), "--features", "tokio", "--example", "probe"]
+        subprocess.run(words, cwd=copy, env=env, check=True)
+        shutil.copy(os.path.join(copy, "target/debug/examples/probe"), made)
+
+
 def probes(room):
     """The probe of each language, as the words that start it."""
     source = os.path.join(CLIENTS, "c", "test", "probe.c")
@@ -500,6 +556,7 @@ def probes(room):
         subprocess.run(["rustc", *flags, "--crate-type", "lib", "--crate-name", "truetime", f"{rust}/src/lib.rs", "--out-dir", room], check=True)
         made = os.path.join(room, "probe-rust")
         subprocess.run(["rustc", *flags, f"{rust}/examples/probe.rs", "--extern", f"truetime={room}/libtruetime.rlib", "-o", made], check=True)
+        build_with_tokio(room, rust, f"{made}-tokio")
         yield "Rust", [made]
     if is_here("javac", "Java"):
         subprocess.run(["javac", "-Xlint:all", "-Werror", "-d", room, *java_sources()], check=True)
@@ -516,6 +573,8 @@ def session_probes(languages):
         yield name, words
         if name == "Python":
             yield "Python asyncio", [*words, "asyncio"]
+        if name == "Rust" and os.path.exists(f"{words[0]}-tokio"):
+            yield "Rust tokio", [f"{words[0]}-tokio", "tokio"]
 
 
 def has_go():

@@ -19,7 +19,7 @@ from xml.etree import ElementTree
 
 from harness.program import WARNINGS, in_top, read, read_text, run, write
 from harness.suite import Suite, wrong_in
-from suites.clients import file_of, go_in, has_go
+from suites.clients import file_of, go_in, has_go, has_tokio, registry_for_cargo
 
 suite = Suite(__name__, at_once=4, quick=False)
 CLIENTS = in_top("clients")
@@ -29,12 +29,12 @@ POM = "{http://maven.apache.org/POM/4.0.0}"
 FILE, PORT, OWNER = "/run/truetime/time", "5601", '"truetime"'
 LO, WIDTH = 10**9, 10
 # What a build leaves in a folder is not copied.
-BUILT = shutil.ignore_patterns("__pycache__", "build", "dist", "target", "*.egg-info")
+BUILT = shutil.ignore_patterns("__pycache__", "build", "dist", "target", "*.egg-info", "Cargo.lock")
 
 
 def succeeds(trial, what, words, may_warn="", **how):
     """A command that has to succeed without a warning, but for one that has this text; what came of it."""
-    ran = run(words, seconds=60, **how)
+    ran = run(words, **{"seconds": 60, **how})
     said = ran.said + ran.error
     warnings = [line for line in said.splitlines() if "warning" in line.lower() and not (may_warn and may_warn in line)]
     trial.check(what, ran.status == 0 and not warnings, f"status {ran.status}\n{said[-2000:]}")
@@ -155,7 +155,7 @@ def versions(trial):
     }
     for name, pattern in named.items():
         trial.equal(name, re.findall(pattern, read_text(f"clients/{name}"), re.MULTILINE), [VERSION])
-    files = [name for name in files_below(CLIENTS) if not {"__pycache__", "build", "target"} & set(name.split("/"))]
+    files = [name for name in files_below(CLIENTS) if not {"__pycache__", "build", "target", "Cargo.lock"} & set(name.split("/"))]
     for name in files:
         others = re.findall(r"(?i)\bv(?:ersion)?[\W_]{0,4}(0\.\d+(?:\.\d+)*)\b", read_text(f"clients/{name}"))
         trial.check(name, all(f"{other}.".startswith("0.3.") for other in others), f"it names the versions {others}")
@@ -308,7 +308,7 @@ def python(trial):
                     for example in examples_in(document, heading) if "truetime." in example.text]
         for number, example in enumerate(examples):
             path = f"{room}/example_{number}.py"
-            write(path, f"import truetime\n{example.beside(stand_in)}".encode())
+            write(path, example.beside(stand_in).encode())
             succeeds(trial, f"compile {number}", [here, "-c", "import sys; compile(open(sys.argv[1]).read(), sys.argv[1], 'exec')", path])
             try_example(trial, f"example {number}", example, stand_in, [here, "-W", "error", path], env=env, cwd=room)
     note_examples(trial, examples, "pip install into a virtual environment, import, wheel, source package, types")
@@ -316,38 +316,73 @@ def python(trial):
 
 # Rust.
 
+def manifest_of_rust(name, *more):
+    """What cargo reads of a crate that depends on the package, with more words of that dependency, and further ones."""
+    words = "".join(f", {word}" for word in more[:1])
+    further = "".join(f"{line}\n" for line in more[1:])
+    return (f'[package]\nname = "{name}"\nversion = "1.0.0"\nedition = "2021"\n\n[dependencies]\n'
+            f'truetime = {{ path = "../unpacked/truetime-{VERSION}"{words} }}\n{further}')
+
+
+def user_of_tokio(examples, stand_in):
+    """The files of a crate that has the session's example as a program of tokio, with `.await` behind each call."""
+    example = next(example for example in examples if "truetime::Session" in example.text)
+    text = example.beside(stand_in).replace("truetime::Session", "truetime::aio::Session").replace(")?;", ").await?;")
+    yield "Cargo.toml", manifest_of_rust("user_of_tokio", 'features = ["tokio"]', 'tokio = { version = "1.24", default-features = false, features = ["rt"] }')
+    yield "src/main.rs", (
+        "#![allow(unused_variables)]\n\nasync fn commit() -> Result<(), truetime::Error> {\n"
+        f"{text}    Ok(())\n}}\n\nfn main() -> Result<(), Box<dyn std::error::Error>> {{\n"
+        "    let runtime = tokio::runtime::Builder::new_current_thread().enable_all().build()?;\n    Ok(runtime.block_on(commit())?)\n}\n")
+
+
 def user_of_rust(examples, stand_in):
     """The files of a crate that has each example as a program."""
-    yield "Cargo.toml", ('[package]\nname = "user"\nversion = "1.0.0"\nedition = "2021"\n\n[dependencies]\n'
-                         f'truetime = {{ path = "../unpacked/truetime-{VERSION}" }}\n')
+    yield "Cargo.toml", manifest_of_rust("user")
     for number, example in enumerate(examples):
         yield f"src/bin/example_{number}.rs", (
-            "#![allow(unused_variables, unused_imports)]\nuse std::time::{Duration, Instant};\n\nfn main() -> Result<(), Box<dyn std::error::Error>> {\n"
+            "#![allow(unused_variables)]\n\nfn main() -> Result<(), Box<dyn std::error::Error>> {\n"
             f"{example.beside(stand_in)}    Ok(())\n}}\n")
+
+
+def write_crate(folder, files):
+    """Writes the files of a crate."""
+    for name, text in files:
+        os.makedirs(os.path.dirname(os.path.join(folder, name)), exist_ok=True)
+        write(os.path.join(folder, name), text.encode())
 
 
 @suite.case(programs=("cargo",))
 def rust(trial):
-    """The crate as cargo packages it, its documents, its tests, and a crate that depends on the package."""
+    """The crate as cargo packages it, its documents, its tests, and crates that depend on the package, one of them with tokio, where that is
+    here."""
     room = trial.room
+    by, features = registry_for_cargo(room), ["--features", "tokio"] * has_tokio()
     env = {**os.environ, "CARGO_TARGET_DIR": f"{room}/target", "RUSTFLAGS": "-D warnings", "RUSTDOCFLAGS": "-D warnings",
            "CARGO_PROFILE_DEV_DEBUG": "0", "CARGO_TERM_COLOR": "never"}
     with copied(trial) as clients, StandIn(room) as stand_in:
         crate = f"{clients}/rust"
-        succeeds(trial, "cargo doc", ["cargo", "doc", "--offline", "--no-deps"], cwd=crate, env=env)
-        said = succeeds(trial, "cargo test", ["cargo", "test", "--offline"], cwd=crate, env=env).said
+        succeeds(trial, "cargo doc", ["cargo", "doc", *by, *features, "--no-deps"], cwd=crate, env=env, seconds=300)
+        said = succeeds(trial, "cargo test", ["cargo", "test", *by, *features], cwd=crate, env=env, seconds=300).said
+        dropped = re.findall(r"^test a_\w+_dropped\w* \.\.\. ok$", said, re.MULTILINE)
+        trial.equal("tests of calls of tokio that are dropped", len(dropped), 5 * has_tokio())
         trial.check("examples in its documents", re.search(r"^test src/lib.rs .* ok$", said, re.MULTILINE), said)
         wanted = {"Cargo.toml", "README.md", *(name for name in files_below(crate) if name.endswith(".rs"))}
-        package = ["cargo", "package", "--offline", "--allow-dirty"]
+        package = ["cargo", "package", *by, "--allow-dirty"]
         listed = succeeds(trial, "cargo package --list", [*package, "--list"], "no license", cwd=crate, env=env).said.split()
         trial.equal("files of the package", set(listed) - {"Cargo.lock", "Cargo.toml.orig"}, wanted)
         succeeds(trial, "cargo package", [*package, "--no-verify"], "no license", cwd=crate, env=env)
         shutil.unpack_archive(f"{room}/target/package/truetime-{VERSION}.crate", f"{room}/unpacked", "gztar")
         examples = examples_in("clients/README.md", "Rust")
-        for name, text in user_of_rust(examples, stand_in):
-            os.makedirs(os.path.dirname(f"{room}/user/{name}"), exist_ok=True)
-            write(f"{room}/user/{name}", text.encode())
-        succeeds(trial, "cargo build", ["cargo", "build", "--offline"], cwd=f"{room}/user", env=env)
+        write_crate(f"{room}/user", user_of_rust(examples, stand_in))
+        succeeds(trial, "cargo build", ["cargo", "build", *by], cwd=f"{room}/user", env=env, seconds=300)
+        if has_tokio():
+            write_crate(f"{room}/user_of_tokio", user_of_tokio(examples, stand_in))
+            succeeds(trial, "cargo build with tokio", ["cargo", "build", *by], cwd=f"{room}/user_of_tokio", env=env, seconds=300)
+            stand_in.came.clear()
+            succeeds(trial, "a program of tokio", [f"{room}/target/debug/user_of_tokio"])
+            trial.equal("a program of tokio: its lines", stand_in.came, ["commit 1 0"] * 2)
+        else:
+            trial.note("Rust tokio is left out: librust-tokio-dev is not here")
         for number, example in enumerate(examples):
             try_example(trial, f"example {number}", example, stand_in, [f"{room}/target/debug/example_{number}"])
     note_examples(trial, examples, "cargo doc, test, package, and a crate that depends on the package")
@@ -369,6 +404,9 @@ def java(trial):
         trial.equal("pom.xml", said, ["4.0.0", "truetime", VERSION, "jar"])
         sources = sorted(glob.glob(f"{clients}/java/src/main/java/**/*.java", recursive=True))
         release = pom.findtext(f"{POM}properties/{POM}maven.compiler.release", "")
+        # Older plugins of Maven know no release, and take 5 where nothing else is said.
+        levels = [pom.findtext(f"{POM}properties/{POM}maven.compiler.{name}") for name in ("source", "target")]
+        trial.equal("pom.xml: source and target", levels, [release] * 2)
         compiler, jar = ["javac", *(f"-J{word}" for word in SMALL), "--release", release, "-Xlint:all", "-Werror"], f"{room}/truetime-{VERSION}.jar"
         succeeds(trial, "javac", [*compiler, "-d", f"{room}/classes", *sources])
         succeeds(trial, "jar", ["jar", *(f"-J{word}" for word in SMALL), "--create", "--file", jar, "-C", f"{room}/classes", "."])

@@ -21,8 +21,10 @@ PYTHON = {
     "803": "refused 803: the clock gave no reading", "65535": "refused 65535: see docs/FORMATS.md", "not begun": "no commit was begun",
     "bad line": "not a line: 'x", "closed": "the session is closed",
 }
+RUST = {**PYTHON, "ended": "the connection failed: unexpected end of file", "none": "the connection failed: invalid data",
+        "late": "the connection failed: timed out", "bad line": "the line is too long or has a line feed", "closed": ""}
 WORDS = {
-    "Python": PYTHON, "Python asyncio": PYTHON,
+    "Rust": RUST, "Rust tokio": RUST, "Python": PYTHON, "Python asyncio": PYTHON,
     "C": {
         "ended": "the service ended the session; if it had a lease, it has to be set again", "none": "what came is no reply",
         "late": "no reply or no release came in time", "held": "no reply or no release came in time",
@@ -30,8 +32,6 @@ WORDS = {
         "803": "the clock gave no reading", "65535": "see docs/FORMATS.md", "not begun": "Invalid argument", "bad line": "Invalid argument",
         "closed": "the session is not open",
     },
-    "Rust": {**PYTHON, "ended": "the connection failed: unexpected end of file", "none": "the connection failed: invalid data",
-             "late": "the connection failed: timed out", "bad line": "the line is too long or has a line feed", "closed": ""},
     "Java": {**PYTHON, "none": "not a reply to now", "bad line": "not a line: x", "closed": "ClosedChannelException"},
     "Go": {**PYTHON, "ended": "truetime: the connection failed: unexpected EOF", "none": 'not a reply to "now": "hello"',
            "late": "truetime: the connection failed: i/o timeout", "held": "context deadline exceeded",

@@ -34,6 +34,8 @@ FEW = 20
 SHORT_MS = 20
 # What keeps a descriptor beside a mapping: mmap of Python does.
 KEEPS_DESCRIPTORS = {"Python"}
+# Who has sessions alone.
+ASYNCHRONOUS = {"Python asyncio", "Rust tokio"}
 # What marks no descriptor as its own alone: the runtime closes them in a child.
 UNMARKED = {"Java"}
 #: The bit of a descriptor that a child does not get, as /proc shows it.
@@ -236,7 +238,7 @@ def time_limit(probe):
 
 def try_all(trial, name, words, openings):
     """Opens and closes each of these by a probe; their number."""
-    openings = [opening for opening in openings if opening[1] in ("tcp", "unix") or "asyncio" not in words]
+    openings = [opening for opening in openings if opening[1] in ("tcp", "unix") or name not in ASYNCHRONOUS]
     with Reader(words, "openings") as probe, time_limit(probe):
         for opening in openings:  # the first time some runtimes open what they keep
             if opening[5] and opening[4] != SHORT_MS:

@@ -17,14 +17,20 @@
         `N stamps, N different, some snapshots, N torn`
 
 A refusal is `refused NUMBER`.
+
+What is right is what the proved program tt_stamp_rows answers to the same calls (crates/tt_stamp_rows/specs/Table.antt has the rule): it is
+given for each call a reading within the time that the call took, by which a right table answers what came.
 """
 import os
+import random
 import time
 
+from harness.program import run
 from suites.clients import MAX, SECOND, Reader, suite
 from suites.clients_of_stampers import Shared, timed
 
 WIDTH = 1000
+SCRIPTS, CALLS = 5, 80
 
 
 def try_table(said, shared, path):
@@ -74,6 +80,70 @@ def try_table(said, shared, path):
     yield "the watermark at the end of time", said("watermark"), str(MAX - 1)
 
 
+def within(number, bounds):
+    """The number in these bounds that is nearest."""
+    return min(max(number, bounds[0]), bounds[1])
+
+
+def a_call(chance, begun, base):
+    """A call: its name, and its numbers but those of its reading. `begun` are the stamps so far, `base` is about the time."""
+    stamps = begun or [base]
+    a_stamp = chance.choice(stamps) + chance.choice([0, 0, 0, 0, -1, 1])
+    floor = chance.choice([0, 0, max(stamps) + chance.randrange(1, 9), base + chance.randrange(6 * SECOND), base + 60 * SECOND])
+    name = chance.choice(["begin", "begin", "begin", "written", "written", "given_up", "watermark", "watermark", "readable", "readable", "release"])
+    numbers = {"begin": [floor], "watermark": [], "readable": [chance.choice([a_stamp, a_stamp, base - chance.randrange(SECOND)])]}
+    return name, numbers.get(name, [a_stamp])
+
+
+def asked_again(name, numbers, came, bounds):
+    """The line for the program that asks the same, by the reading in these bounds by which what came is right, if one is. The bounds are those of
+    the middle of the reading."""
+    earliest, latest = [at - WIDTH for at in bounds], [at + WIDTH for at in bounds]
+    if name == "begin":
+        stamp = int(came.removeprefix("begun ")) if came.startswith("begun ") else 0
+        return f"begin 0 {within(stamp, latest)} {numbers[0]}"
+    if name == "watermark":
+        return f"watermark {within(int(came) + 1 if came.isdigit() else 0, earliest)}"
+    if name in ("readable", "release"):
+        return f"{name} {numbers[0]} {earliest[came == 'yes']}"
+    return f"{name} {numbers[0]}"
+
+
+def a_script(said, shared, chance):
+    """Calls of a table whose time goes on by leaps; each line for the program, and what came."""
+    ahead, begun = 0, []
+    for _ in range(CALLS):
+        if chance.random() < 0.2:
+            ahead += chance.randrange(2 * SECOND)
+            shared.publish(early=WIDTH, late=WIDTH, ahead=ahead)
+        name, numbers = a_call(chance, begun, shared.now() + ahead)
+        before = shared.now() + ahead
+        came = said(" ".join(map(str, [name, *numbers, *([0] if name in ("readable", "release") else [])])))
+        yield asked_again(name, numbers, came, (before, shared.now() + ahead)), came
+        if came.startswith("begun "):
+            begun.append(int(came.removeprefix("begun ")))
+
+
+def try_scripts(trial, name, words, path):
+    """Random calls beside the program; their number."""
+    if not trial.options.stamps:
+        trial.note("no random calls are tried: --stamps names no program, and tt_stamp_rows is not built here")
+        return 0
+    calls = []
+    for number in range(SCRIPTS):
+        with Shared(path) as shared, Reader(words, "pending") as probe:
+            shared.publish(early=WIDTH, late=WIDTH)
+            calls += [("table", probe.say(f"open {path}")), *a_script(probe.say, shared, random.Random(number))]
+    ran = run([trial.options.stamps], "".join(f"{line}\n" for line, _ in calls).encode(), 60)
+    answers = ran.said.splitlines()
+    trial.check(name, len(answers) == len(calls), f"{len(answers)} answers to {len(calls)} calls: {ran.error}")
+    for (line, came), answer in zip(calls, answers):
+        trial.check(name, came == answer, f"{line}: {came} in place of {answer}")
+    for some in "begun ", "ended", "invalid", "yes", "no", "refused 902":
+        trial.check(name, any(came.startswith(some) for _, came in calls), f"no call is answered {some}")
+    return len(calls)
+
+
 @suite.case()
 def pending_tables(trial):
     """A table of pending commits, call by call, and beside a reader of snapshots."""
@@ -83,6 +153,7 @@ def pending_tables(trial):
             for what, came, answer in try_table(probe.say, shared, path):
                 checks += 1
                 trial.check(name, came == answer, f"{what}: {came} in place of {answer}")
+        checks += try_scripts(trial, name, words, path)
         with Shared(path) as shared, Reader(words, "pending") as probe:
             shared.publish(early=WIDTH, late=WIDTH)
             trial.equal(name, probe.say(f"open {path}"), "open")

@@ -5,6 +5,8 @@
     row LAST LO HI FLOOR LEASE_LO LEASE_HI
         `stamp N`, or `refused N`: what a stamper with this lease, whose last stamp is LAST, or none where that is 0, says to a floor by the
         reading [LO, HI]. `wrong` where its last stamp is not N after that, or is another one after a refusal
+    row LAST LO HI FLOOR LEASE_LO LEASE_HI AHEAD GRID
+        the same, where a floor may lie AHEAD above HI, and stamps are multiples of GRID; not in Go and Rust, whose call is private
     open PATH LEASE_LO LEASE_HI
         opens the file, mapped, and a stamper over it, in place of those before: `open`, or `refused N`
     stamp FLOOR
@@ -17,8 +19,9 @@
         so many threads, which begin together, each take so many stamps with this floor. When all have ended, for each thread from 0 on, each
         of its stamps in its order: the thread's number and a blank before what `stamp` says. Then `end`
 
-What `row` has to say is what the proved rule says (`stamp_of` of crates/tt_stamp/specs/Stamp.antt): the program of --stamps, tt_stamp_rows,
-answers the same lines by it. Rows that were worked out by hand are a check of that program, too.
+What `row` has to say is what the proved rule says (`stamp_of` of crates/tt_stamp/specs/Stamp.antt, and `stamp_on` of
+crates/tt_stamp_rows/specs/Grid.antt): the program of --stamps, tt_stamp_rows, answers the same lines by it. Rows that were worked out by hand
+are a check of that program, too. What `stamp` says over a file is a row, too, since it names its reading.
 """
 import contextlib
 import itertools
@@ -66,6 +69,33 @@ BY_HAND = [
     ((0, 0, 0, 0, MAX, MAX), f"stamp {MAX}"),
 ]
 
+# The same, with how far a floor may be ahead, and the grid.
+ON_GRIDS_BY_HAND = [
+    ((0, 100, 200, 0, 0, MAX, SECOND, 1), "stamp 200"),
+    ((0, 100, 200, 0, 0, MAX, SECOND, 1000), "stamp 1000"),
+    ((0, 100, 1000, 0, 0, MAX, SECOND, 1000), "stamp 1000"),
+    ((999, 100, 200, 0, 0, MAX, SECOND, 1000), "stamp 1000"),
+    ((1000, 100, 200, 0, 0, MAX, SECOND, 1000), "stamp 2000"),
+    ((0, 100, 200, 1001, 0, MAX, SECOND, 1000), "stamp 2000"),
+    ((0, 100, 200, 0, 2001, MAX, SECOND, 1000), "stamp 3000"),
+    ((0, 100, 200, 0, 2001, 2999, SECOND, 1000), "refused 903"),
+    ((0, 100, 200, 0, 2001, 3000, SECOND, 1000), "stamp 3000"),
+    ((0, 100, 200, 200, 0, MAX, 0, 1), "stamp 200"),
+    ((0, 100, 200, 201, 0, MAX, 0, 1), "refused 902"),
+    ((0, 100, 200, 1_000_000_200, 0, MAX, SECOND, 1), "stamp 1000000200"),
+    ((0, 100, 200, 1_000_000_201, 0, MAX, SECOND, 1), "refused 902"),
+    ((0, 100, 200, 700, 0, MAX, 500, 1000), "stamp 1000"),
+    ((MAX - 1, 0, 0, 0, 0, MAX, SECOND, 1000), f"stamp {MAX}"),
+    ((MAX - 1, 0, 0, 0, 0, MAX, SECOND, 7), "refused 901"),
+    ((0, 0, MAX - 4, 0, 0, MAX, SECOND, 7), f"stamp {MAX - 4}"),
+    ((MAX - 1, 0, 0, 0, 0, MAX - 1, SECOND, 1000), "refused 903"),
+    ((MAX - 1, 0, 0, 0, 0, MAX - 1, SECOND, 7), "refused 901"),
+    ((0, 0, 0, 0, 0, MAX, 0, SECOND), "stamp 0"),
+    ((0, 0, 1, 0, 0, MAX, 0, SECOND), "stamp 1000000000"),
+    ((0, 0, MAX, MAX + AHEAD, 0, MAX, AHEAD, 1000), "refused 901"),
+    ((0, 0, MAX, MAX + AHEAD + 1, 0, MAX, AHEAD, 1000), "refused 902"),
+]
+
 
 def corners():
     """Each of these last stamps, readings, leases and floors with each other."""
@@ -100,12 +130,27 @@ def vectors(seed, number):
         yield last, lo, hi, floor, *lease
 
 
+def on_grids(seed, number):
+    """Rows with a limit and a grid, whose numbers are often at an edge of these."""
+    chance = random.Random(seed)
+    for last, lo, hi, floor, *lease in vectors(seed, number):
+        ahead = chance.choice([0, 1, SECOND, AHEAD, chance.randrange(AHEAD + 1)])
+        grid = chance.choice([1, 2, 1000, 10**6, SECOND, chance.randrange(1, SECOND + 1)])
+        floor = min(chance.choice([floor, hi + ahead, hi + ahead + 1, hi // grid * grid, hi // grid * grid + 1]), NO_LIMIT)
+        last = chance.choice([last, hi // grid * grid, max(hi // grid * grid - 1, 0)])
+        if chance.random() < 0.3:
+            lease[1] = min(max((hi // grid + 1) * grid - chance.randrange(2), lease[0]), MAX)
+        yield last, lo, hi, floor, *lease, ahead, grid
+
+
 # Leases whose ends are none, and what a stamper says to them.
 NO_LEASES = [((1, 0), "refused 101"), ((MAX, 0), "refused 101"), ((MAX + 1, MAX), "refused 101"), ((NO_LIMIT, 0), "refused 101"),
              ((0, MAX + 1), "refused 102")]
 # Lines that are no rows for tt_stamp_rows: in their form, or by a last stamp or a reading that there cannot be.
 NO_ROWS = ["\n", "row\n", "row 0 0 0 0 0\n", "row 0 0 0 0 0 0 0\n", "row 0 0 0 0 0 0", "row 0 0 0 0 0 00\n", "row 0 0 0 0 0 -1\n", "0 0 0 0 0 0\n",
-           f"row 0 0 0 {NO_LIMIT + 1} 0 0\n", f"row {MAX + 1} 0 0 0 0 0\n", "row 0 1 0 0 0 0\n", f"row 0 0 {MAX + 1} 0 0 0\n"]
+           f"row 0 0 0 {NO_LIMIT + 1} 0 0\n", f"row {MAX + 1} 0 0 0 0 0\n", "row 0 1 0 0 0 0\n", f"row 0 0 {MAX + 1} 0 0 0\n",
+           "row 0 0 0 0 0 0 0 0\n", f"row 0 0 0 0 0 0 0 {SECOND + 1}\n", f"row 0 0 0 0 0 0 {AHEAD + 1} 1\n", "row 0 0 0 0 0 0 0 1 1\n",
+           f"row {MAX + 1} 0 0 0 0 0 0 1\n", "table 0\n", "begin 1 0 0\n", "begin 0 0\n", "watermark\n", "readable 0\n", "release 0\n", "written\n"]
 
 
 def lines_of(rows):
@@ -115,11 +160,12 @@ def lines_of(rows):
 
 def rows_and_answers(trial):
     """The rows to try, each with what a stamper has to say to it."""
+    worked = BY_HAND + ON_GRIDS_BY_HAND
     if not trial.options.stamps:
         trial.note("only the rows by hand are tried: --stamps names no program, and tt_stamp_rows is not built here")
-        return BY_HAND
-    by_hand = [*BY_HAND, *(((0, 0, 0, 0, *lease), answer) for lease, answer in NO_LEASES)]
-    rows = [*(numbers for numbers, _ in by_hand), *corners(), *vectors(2, 10_000)]
+        return worked
+    by_hand = [*worked, *(((0, 0, 0, 0, *lease, *limits), answer) for lease, answer in NO_LEASES for limits in ((), (0, 1)))]
+    rows = [*(numbers for numbers, _ in by_hand), *corners(), *vectors(2, 10_000), *on_grids(4, 5_000)]
     ran = run([trial.options.stamps], lines_of(rows), 60)
     answers = ran.said.splitlines()
     trial.check("tt_stamp_rows", ran.status == 0 and len(answers) == len(rows), f"status {ran.status}, {len(answers)} answers: {ran.error}")
@@ -131,11 +177,13 @@ def rows_and_answers(trial):
     for line in NO_ROWS:
         ran = run([trial.options.stamps], lines_of([BY_HAND[0][0]]) + line.encode(), 60)
         trial.check("tt_stamp_rows", ran.answer == ("stamp 0\n", 1) and "line 2 " in ran.error, f"{line!r}: {ran.answer} {ran.error.strip()}")
-    return BY_HAND + list(zip(rows, answers))[len(by_hand):]
+    return worked + list(zip(rows, answers))[len(by_hand):]
 
 
 def try_rows(trial, name, words, tried):
-    """The rule, row by row."""
+    """The rule, row by row; the number of rows."""
+    if name in ("Go", "Rust"):
+        tried = [(numbers, answer) for numbers, answer in tried if len(numbers) == 6]
     answers = run([*words, "stamper"], lines_of(numbers for numbers, _ in tried), 300).said.splitlines()
     trial.check(name, len(answers) == len(tried), f"{len(answers)} answers to {len(tried)} rows")
     for (numbers, answer), came in zip(tried, answers):
@@ -143,6 +191,7 @@ def try_rows(trial, name, words, tried):
     for lease, answer in NO_LEASES:
         came = run([*words, "stamper"], lines_of([(0, 0, 0, 0, *lease)]), 60).said.strip()
         trial.check(name, came == answer, f"lease {lease}: {came} in place of {answer}")
+    return len(tried)
 
 
 class Shared:
@@ -274,6 +323,51 @@ def try_limits(said, shared, path):
     yield "nothing published", said("left 0"), "refused 801"
 
 
+def stamped_on_grids(said, shared, path):
+    """Stamps over a file, by stampers with limits and grids; what was said, and a row for each reading by which it may have been."""
+    chance = random.Random(5)
+    for number in range(60):
+        at_end, base = number % 4 == 3, shared.now()
+        if at_end:  # each reading is of the greatest time alone
+            shared.publish(clock=(clock := time.monotonic_ns()), ahead=MAX - shared.offset - clock)
+            base = MAX
+        else:
+            shared.publish(early=300, late=500)
+        grid = chance.choice([1, 2, 1000, 1000, 10**6, chance.randrange(1, SECOND + 1)])
+        limits = (chance.choice([0, 1, SECOND, AHEAD, chance.randrange(AHEAD + 1)]), grid)
+        low = chance.choice([0, base, (base // grid - 1) * grid, base + chance.randrange(SECOND)])
+        lease = (min(low, MAX), min(chance.choice([MAX, low + chance.randrange(3 * grid), low + chance.randrange(9 * SECOND)]), MAX))
+        said(f"open {path} {lease[0]} {lease[1]} {limits[0]} {limits[1]}")
+        last = 0
+        if chance.random() < 0.4:
+            last = min(base - base % grid + chance.randrange(-2, 9) * grid + chance.randrange(-1, 2), MAX)
+            said(f"above {last}")
+        for _ in range(5):
+            floor = max(chance.choice([0, base + limits[0] + chance.randrange(-1, 2), base + chance.randrange(AHEAD), last + 3 * grid, last]), 0)
+            readings = [MAX if at_end else shared.now() + 500]
+            came = said(f"stamp {floor}").split(" ")
+            readings.append(MAX if at_end else shared.now() + 500)
+            if came[0] == "stamp" and readings[0] <= int(came[3]) <= readings[1]:
+                readings = [int(came[3])]
+            yield " ".join(came[:2]), [(last, 0, latest, floor, *lease, *limits) for latest in readings]
+            last = int(came[1]) if came[0] == "stamp" else last
+
+
+def try_grids(trial, name, said, shared, path):
+    """Stamps over a file beside the rule; their number."""
+    tried = list(stamped_on_grids(said, shared, path))
+    rows = [row for _, possible in tried for row in possible]
+    if not trial.options.stamps:
+        return 0
+    answers = iter(run([trial.options.stamps], lines_of(rows), 60).said.splitlines())
+    for came, possible in tried:
+        right = [next(answers, "nothing") for _ in possible]
+        trial.check(name, came in right, f"rows {possible}: {came} in place of {' or '.join(right)}")
+    for answer in "stamp ", "refused 902", "refused 903":
+        trial.check(name, sum(came.startswith(answer) for came, _ in tried) > 20, f"few answers {answer}")
+    return len(tried)
+
+
 def timed(said, line, least_ms, most_ms, more_ms=1000):
     """What is said to a line, and whether it took so long. The host may be busy, so it may take a second more, or as much as is named."""
     began = time.monotonic()
@@ -321,15 +415,16 @@ def stampers(trial):
     tried = rows_and_answers(trial)
     for name, words in trial.shared:
         before, checks, path = len(trial.result.wrong), 0, os.path.join(trial.room, "stamped")
-        try_rows(trial, name, words, tried)
+        rows = try_rows(trial, name, words, tried)
         with Shared(path) as shared, Reader(words, "stamper") as probe:
             late = threading.Timer(120, probe.probe.kill)
             late.start()
             for what, came, answer in (each for some in (try_refusals, try_stamps, try_limits, try_waits) for each in some(probe.say, shared, path)):
                 checks += 1
                 trial.check(name, came == answer, f"{what}: {came} in place of {answer}")
+            checks += try_grids(trial, name, probe.say, shared, path)
             late.cancel()
-        trial.note(f"{name}: {len(tried)} rows, {checks} answers over files, {len(trial.result.wrong) - before} wrong")
+        trial.note(f"{name}: {rows} rows, {checks} answers over files, {len(trial.result.wrong) - before} wrong")
 
 
 THREADS, EACH, WIDTH = 8, 10_000, 500_000

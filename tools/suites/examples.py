@@ -133,7 +133,7 @@ def all_cases():
 @suite.last_line
 def last_line(results):
     told = []
-    for kind, what in (("commands", "commands of the documents"), ("texts", "texts on standard error")):
+    for kind, what in (("commands", "commands of the documents"), ("texts", "texts on standard error"), ("pages", "looks at the reference pages")):
         of_kind = [result for result in results if result.counts[kind]]
         told.append(f"{len(of_kind)} {what}, {sum(len(result.wrong) for result in of_kind)} wrong")
     return "; ".join(told)

@@ -2,7 +2,6 @@
 import contextlib
 import json
 import os
-import shlex
 import shutil
 import socket
 import subprocess
@@ -11,7 +10,7 @@ from concurrent.futures import ThreadPoolExecutor
 
 from harness import trouble
 from harness.processes import free_port, truetime
-from harness.program import read, run, write
+from harness.program import in_top, read, run, write
 from harness.trouble import as_nobody, full_listener, full_pipe, hold_lock
 from suites.faults import suite
 
@@ -311,7 +310,7 @@ def paths_of_one_file(trial):
             continue
         if ran.answer != (f"refused {refusal}\n", 2):
             yield f"--check with {settings}: {ran.answer}, and {refusal} is wanted"
-        if refusal == "1817" and not ran.error.splitlines()[0].endswith(", by another name of its folder"):
+        if refusal == "1817" and not ran.error.partition("\n")[0].endswith(", by another name of its folder"):
             yield f"--check with {settings}: {ran.error!r} does not say why"
         for fault in refused_by_start(trial, node, refusal, (2,)):
             yield f"a start with {settings}: {fault}"
@@ -321,10 +320,11 @@ def paths_of_one_file(trial):
 def files_at_their_limit(trial):
     """As the unit starts it, with SIGXFSZ ignored, a machine goes on where files may be no longer, and says so."""
     unit = read("packaging/truetime@.service").decode()
-    command = next(line.partition("=")[2] for line in unit.splitlines() if line.startswith("ExecStart="))
-    words = [word.replace("$$", "$") for word in shlex.split(command)]
+    if "\nExecStart=/usr/libexec/truetime/run /usr/bin/ttd serve " not in unit:
+        yield "the unit does not start it by packaging/run"
     node = trial.node(trial.masters(3))
-    node.run(["prlimit", "--fsize=4096:4096", *words[:words.index("/usr/bin/ttd")]])
+    node.words.remove("--until-eof")  # which the script adds
+    node.run(["prlimit", "--fsize=4096:4096", in_top("packaging/run")])
     yield from node.publishes_within(2)
     yield from node.goes_on()
     yield from node.answers()
@@ -427,6 +427,20 @@ def shared_in_a_time_namespace(trial):
     if numbers != [1702] or os.path.exists(node.path("shared")):
         yield f"it refuses with {numbers}, and the file is {'there' if os.path.exists(node.path('shared')) else 'not there'}"
     yield from node.answers()
+
+
+@suite.case(root=True, programs=("unshare",))
+def read_in_a_time_namespace(trial):
+    """`ttd read` refuses a file whose clock its time namespace shifts, be it by a second, and reads it in one that shifts nothing."""
+    apart = ["unshare", "--time", "--fork"]
+    if run([*apart, "true"]).status != 0:
+        trial.note("there are no time namespaces here")
+        return
+    node = trial.running_node(trial.masters(3))
+    for offset, wanted in ([], "now"), (["--monotonic", "1"], "refused 1702"), (["--monotonic", "-1"], "refused 1702"):
+        ran = run([*apart, *offset, trial.program, "read", node.path("shared")])
+        if not ran.said.startswith(wanted) or (ran.status == 0) != (wanted == "now"):
+            yield f"{offset}: {ran.said.strip()!r} with status {ran.status}, and {wanted} is wanted"
 
 
 @suite.case()

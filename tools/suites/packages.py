@@ -2,6 +2,7 @@
 
 - Two builds of one commit, in other folders and by users with other habits, give the same bytes, and lintian says nothing of them.
 - Each file is that of the repository, and packaging/install puts the same ones to the same places.
+- That of the extension of PostgreSQL is loaded by a server (packages_of_postgres.py).
 - In a copy of this host's root, which goes with the case, and by a systemctl that writes down what it is told: the packages are installed,
   upgraded, removed and purged, and what lies there after each is what docs/OPERATING.md says. Nothing is enabled or started, and an
   upgrade stops nothing.
@@ -23,6 +24,7 @@ import subprocess
 import time
 from concurrent.futures import ThreadPoolExecutor
 
+from harness import postgres
 from harness.processes import Fault
 from harness.program import in_top, read, read_text, run, write
 from harness.suite import Suite, wrong_in
@@ -30,13 +32,15 @@ from suites.clients_as_installed import UNTYPED, VERSION, files_below
 from suites.wiring_checks import SETTINGS, eventually
 
 suite = Suite(__name__, longest_s=120, again=1, quick=False)
-NAMES = ["libtruetime-dev", "python3-truetime", "truetime"]
+# The extension is a package where the headers of its server are, and is installed where the server is.
+POSTGRES = "postgresql-15-truetime"
 BUILDS = ("dpkg-buildpackage", "dh", "cmake", "git")
 TRIES = (*BUILDS, "unshare", "nsenter", "ip", "setpriv", "systemd-sysusers", "systemd-tmpfiles")
 UNITS = "lib/systemd/system"
 MODULE, SHARED = "usr/lib/python3/dist-packages/truetime", "usr/share/truetime"
 PYTHON_CLIENT = "clients/python/truetime"
-DOCUMENTS = ("OPERATING", "UPGRADES", "MASTERS", "FORMATS", "THREATS", "EMBEDDING", "PEERS")
+DOCUMENTS = ("OPERATING", "UPGRADES", "MASTERS", "FORMATS", "THREATS", "EMBEDDING", "PEERS",
+             *(f"reference/{name}" for name in ("alerts", "commands", "crates", "events", "metrics", "refusals", "settings")))
 # Where each file of a package is from. What has no place in the repository is made; of the program only the symbols are missing.
 FILES = {
     "libtruetime-dev": {
@@ -50,7 +54,7 @@ FILES = {
     },
     "truetime": {
         "usr/bin/ttd": None, "usr/share/man/man1/ttd.1.gz": None, "usr/share/man/man5/node.toml.5.gz": None,
-        **{f"usr/libexec/truetime/{name}": f"packaging/{name}" for name in ("await", "stands-still")},
+        **{f"usr/libexec/truetime/{name}": f"packaging/{name}" for name in ("await", "run", "stands-still")},
         **{f"{UNITS}/{name}": f"packaging/{name}" for name in (
             "truetime@.service", "truetime-master@.service", "truetime-watch@.service", "truetime-watch@.timer")},
         "usr/lib/sysusers.d/truetime.conf": "packaging/truetime.sysusers", "usr/lib/tmpfiles.d/truetime.conf": "packaging/truetime.tmpfiles",
@@ -59,16 +63,27 @@ FILES = {
         **{f"usr/share/doc/truetime/{name}.md": f"docs/{name}.md" for name in DOCUMENTS},
     },
 }
+if not postgres.missing_headers():
+    FILES[POSTGRES] = {
+        "usr/lib/postgresql/15/lib/truetime.so": None,
+        **{f"usr/share/postgresql/15/extension/{name}": f"clients/postgres/{name}" for name in ("truetime.control", "truetime--0.4.sql")},
+        f"usr/share/doc/{POSTGRES}/README.md": "clients/postgres/README.md",
+        f"usr/share/doc/{POSTGRES}/examples/truetime_merge.py": "clients/postgres/merge/truetime_merge.py",
+    }
+NAMES = sorted(FILES)
+OTHERS = [name for name in NAMES if name != POSTGRES]
+INSTALLED = OTHERS if postgres.missing() else NAMES
 # What each package says of itself. What the program depends on beside, its libraries, debhelper finds.
 FIELDS = {
     "libtruetime-dev": {"Architecture": "all", "Multi-Arch": "foreign", "Depends": "", "Suggests": "truetime", "Section": "libdevel"},
     "python3-truetime": {"Architecture": "all", "Depends": "python3 (>= 3.9), python3:any", "Suggests": "truetime", "Section": "python"},
+    POSTGRES: {"Recommends": "truetime", "Suggests": "python3-psycopg2", "Section": "database", "Pre-Depends": ""},
     "truetime": {"Recommends": "chrony | time-daemon", "Suggests": "prometheus, prometheus-node-exporter", "Section": "net",
                  "Pre-Depends": "", "Conflicts": ""},
 }
-PROGRAMS = {"usr/bin/ttd", "usr/libexec/truetime/await", "usr/libexec/truetime/stands-still"}
+PROGRAMS = {"usr/bin/ttd", *(f"usr/libexec/truetime/{name}" for name in ("await", "run", "stands-still"))}
 # What packaging/install leaves to the packages.
-NOT_BY_INSTALL = re.compile(r"usr/share/(pkgconfig|cmake)/|usr/lib/python3")
+NOT_BY_INSTALL = re.compile(r"usr/share/(pkgconfig|cmake)/|usr/lib/python3|usr/(lib|share|share/doc)/postgresql")
 
 
 def build(trial, folder, **env):
@@ -212,7 +227,7 @@ def manual(trial):
         shown[page] = re.sub(".\b", "", ran.said)
     text = gzip.decompress(read(f"{root}/usr/share/man/man5/node.toml.5.gz")).decode()
     keys = [key for line in re.findall(r"^\.TP\n(\\fB[a-z].*)$", text, re.MULTILINE) for key in re.findall(r"\\fB(\w+)\\fR", line)]
-    trial.equal("keys of node.toml.5", keys, SETTINGS)
+    trial.equal("keys of node.toml.5", keys, [*SETTINGS, "address", "key"])
     for command in re.findall(r"^  ([a-z]+) ", trial.command("--help").said.split("\nOptions:")[0], re.MULTILINE):
         trial.check(f"ttd.1, {command}", command == "help" or f"THE COMMAND {command.upper()}\n" in shown["man1/ttd.1"], "it is missing")
     ran = trial.command("serve", "--check", f"{root}/usr/share/doc/truetime/examples/node.toml")
@@ -302,10 +317,11 @@ class Host:
         trial.check(what, ran.status == 0, f"status {ran.status}\n{ran.said[-1500:]}{ran.error[-1500:]}")
         return [line for line in read_text(f"{self.root}/systemctl.log").splitlines() if line not in ("daemon-reload", "--system daemon-reload")]
 
-    def bring(self, folder):
+    def bring(self, folder, names=tuple(OTHERS)):
         """Copies packages of a folder to it; their paths there."""
         os.makedirs(f"{self.root}/debs", exist_ok=True)
-        return [os.path.join("/debs", os.path.basename(shutil.copy(path, f"{self.root}/debs"))) for path in packages_in(folder).values()]
+        paths = [path for name, path in packages_in(folder).items() if name in names]
+        return [os.path.join("/debs", os.path.basename(shutil.copy(path, f"{self.root}/debs"))) for path in paths]
 
     def written(self):
         """Each file and folder that was written there and is still there, but for what dpkg and its triggers keep for themselves."""
@@ -351,9 +367,9 @@ def life(trial):
     """Installed, upgraded, removed and purged."""
     if not (host := host_of(trial)):
         return
-    told = host.dpkg(trial, "install", "-i", *host.bring(f"{trial.shared}/now"))
+    told = host.dpkg(trial, "install", "-i", *host.bring(f"{trial.shared}/now", INSTALLED))
     trial.equal("systemctl, at the installation", told, [])
-    of_all = {name for of in FILES.values() for name in of}
+    of_all = {file for name in INSTALLED for file in FILES[name]}
     trial.equal("files that are missing", [name for name in of_all if not host.exists(name) and not host.exists(f"{name}.gz")], [])
     trial.equal("user", host.do("id", "-un", "truetime").said, "truetime\n")
     if host.do("sh", "-c", "command -v py3compile").status == 0:
@@ -370,11 +386,11 @@ def life(trial):
         os.makedirs(os.path.dirname(f"{host.root}/{name}"), exist_ok=True)
         write(f"{host.root}/{name}", b"")
     try_upgrade(trial, host)
-    told = host.dpkg(trial, "remove", "-r", *NAMES)
+    told = host.dpkg(trial, "remove", "-r", *INSTALLED)
     trial.equal("systemctl, at the removal", told, ["stop truetime@*.service truetime-master@*.service"])
     trial.equal("kept by the removal", {name for name in KEPT if host.exists(name)}, KEPT)
     trial.equal("files behind the removal", {name for name in {MODULE, *of_all} if host.exists(name) or host.exists(f"{name}.gz")}, set())
-    host.dpkg(trial, "purge", "-P", *NAMES)
+    host.dpkg(trial, "purge", "-P", *INSTALLED)
     left = {name for name in host.written() if not os.path.isdir(f"/{name}")}
     trial.equal("behind the purge", left - {os.path.dirname(ENABLED)}, {os.path.dirname(CONFIGURED), CONFIGURED})
     trial.equal("user behind the purge", host.do("id", "-un", "truetime").said, "truetime\n")
@@ -385,10 +401,10 @@ def try_upgrade(trial, host):
     """An upgrade to the later version, through which a master goes on by the old program."""
     with running([*host.inside, "ttd", "master", "--source", "0", "--listen", "127.0.0.1:5701", "--uncertainty", "1000000"]) as master:
         eventually(lambda: os.readlink(f"/proc/{master.pid}/exe").endswith("/usr/bin/ttd"))
-        told = host.dpkg(trial, "upgrade", "-i", *host.bring(f"{trial.shared}/later"))
+        told = host.dpkg(trial, "upgrade", "-i", *host.bring(f"{trial.shared}/later", INSTALLED))
         trial.equal("systemctl, at the upgrade", told, [])
-        versions = host.do("dpkg-query", "-W", "-f", "${Version} ${db:Status-Status}\n", *NAMES).said.splitlines()
-        trial.equal("versions", versions, ["99 installed"] * len(NAMES))
+        versions = host.do("dpkg-query", "-W", "-f", "${Version} ${db:Status-Status}\n", *INSTALLED).said.splitlines()
+        trial.equal("versions", versions, ["99 installed"] * len(INSTALLED))
         exe = os.readlink(f"/proc/{master.pid}/exe")
         trial.check("a master goes on through the upgrade", master.poll() is None and exe.endswith("/usr/bin/ttd (deleted)"), exe)
     trial.equal("kept by the upgrade", {name for name in KEPT if host.exists(name)}, KEPT)

@@ -24,8 +24,7 @@ ALONE = {
 ENDLESS = {"StartLimitIntervalSec": "0"}
 STARTED_AGAIN = {"Restart": "on-failure", "RestartSec": "200ms", "RestartPreventExitStatus": "2"}
 STARTED_WITH_HOST = {"WantedBy": "multi-user.target"}
-#: What starts a program with SIGXFSZ ignored.
-IGNORING = """/bin/sh -c 'trap "" XFSZ; exec "$$0" "$$@"' """
+RUN = "/usr/libexec/truetime/run /usr/bin/ttd "
 LOOK_AFTER = "Time service, look after machine %i"
 
 # Each section of each unit; a key that stands there more than once has its values in their order.
@@ -34,7 +33,8 @@ WANTED = {
         "Unit": {"Description": "Time service, machine %i", "Documentation": "man:ttd(1) man:node.toml(5) file:/usr/share/doc/truetime",
                  "After": "time-sync.target", "Wants": "truetime-watch@%i.timer", **ENDLESS},
         "Service": {
-            "Type": "exec", "User": "truetime", "ExecStart": IGNORING + "/usr/bin/ttd serve /etc/truetime/%i.toml",
+            "Type": "exec", "User": "truetime", "ExecStart": RUN + "serve /etc/truetime/%i.toml", "KillMode": "mixed",
+            "TimeoutStopSec": "5s",
             "ExecStartPost": "-/usr/libexec/truetime/await /etc/truetime/%i.toml",
             "ExecReload": ["/usr/bin/ttd serve --check /etc/truetime/%i.toml", "+/usr/bin/systemctl --no-block restart truetime@%i.service"],
             **STARTED_AGAIN, "RestartForceExitStatus": "3",
@@ -50,7 +50,7 @@ WANTED = {
         "Service": {
             "Type": "exec", "User": "truetime", "Environment": ["TIME=--uncertainty", "UNCERTAINTY=", "OPTIONS="],
             "EnvironmentFile": "/etc/truetime/%i.master",
-            "ExecStart": IGNORING + "/usr/bin/ttd master --source ${SOURCE} --listen ${LISTEN} $TIME $UNCERTAINTY $OPTIONS",
+            "ExecStart": RUN + "master --source ${SOURCE} --listen ${LISTEN} $TIME $UNCERTAINTY $OPTIONS",
             **STARTED_AGAIN, "RuntimeDirectory": "truetime-master/%i", "RuntimeDirectoryMode": "0755", "UMask": "0022",
             **ALONE, "RestrictAddressFamilies": "AF_INET AF_INET6", "ProcSubset": "pid", "MemoryMax": "64M", "TasksMax": "24",
         },

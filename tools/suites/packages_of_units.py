@@ -20,6 +20,8 @@ ASK = ["ttd", "ask", "127.0.0.1:5601", "now", "--retry", "0"]
 # The triggers are those of other packages, and take long.
 INSTALL = ["--no-triggers", "-i"]
 RELOADS = 20
+# What a busy host may add to a second.
+BUSY_S = 1
 # Lines of a file, each in the place of one of the example, for which a start ends with status 2.
 BAD = {"machine = 9": "refused 1804", "machin = 0": "refused 1802", "machine = ": "refused 1801", "": "refused 1803",
        "machine = 0\nfaulty = 2": "refused 1806", "machine = 0\nkeys = \"/run/truetime/a/time\"": "refused 1817"}
@@ -73,6 +75,15 @@ while True:
 """
 
 
+def program_of(process):
+    """The number of the process that is the program: this one, or one that it started; nothing where none is."""
+    with contextlib.suppress(OSError):
+        for number in (process, *map(int, read_text(f"/proc/{process}/task/{process}/children").split())):
+            if os.readlink(f"/proc/{number}/exe").endswith(("/usr/bin/ttd", "/usr/bin/ttd (deleted)")):
+                return number
+    return None
+
+
 class Unit:
     """An instance of an installed unit, whose commands are run as systemd runs them, without its sandbox."""
     main: subprocess.Popen | None = None
@@ -96,12 +107,17 @@ class Unit:
                 break
         return ran
 
+    @property
+    def program(self):
+        """The number of the process that is the program, below that of ExecStart or in its place; nothing where none is."""
+        return program_of(self.main.pid) if self.main else None
+
     def begin(self):
-        """Runs ExecStart, until that is the program."""
+        """Runs ExecStart, until the program runs."""
         self.main = None
         self.main = subprocess.Popen([*self.host.inside, *next(self.commands("ExecStart"))], stdin=subprocess.DEVNULL,
                                      stdout=subprocess.DEVNULL, stderr=subprocess.DEVNULL)
-        eventually(lambda: self.main.poll() is not None or os.readlink(f"/proc/{self.main.pid}/exe").endswith("/usr/bin/ttd"))
+        eventually(lambda: self.main.poll() is not None or self.program)
         threading.Thread(target=self.main.wait, daemon=True).start()
 
     def start(self):
@@ -112,8 +128,10 @@ class Unit:
     def close(self):
         """Stops it."""
         if self.main:
+            program = self.program
             self.main.send_signal(signal.SIGTERM)
-            self.main.send_signal(signal.SIGCONT)
+            if program:
+                os.kill(program, signal.SIGCONT)
             self.main.wait()
 
     def told(self, *keys):
@@ -243,7 +261,7 @@ def watched(trial):
         put(host, GOOD)
         machine.close()
         machine.start()
-        machine.main.send_signal(signal.SIGSTOP)
+        os.kill(machine.program, signal.SIGSTOP)
         time.sleep(0.1)
         for seconds, wanted in (0, []), (40, []), (44, restart):  # ten rounds of 1.25 s, and half a minute
             age(host, seconds)
@@ -386,8 +404,14 @@ class Booted(Host):
         ran = self.do("systemctl", *words)
         return ran.said.strip(), ran.status
 
-    def process(self):
-        return self.systemctl("show", "-P", "MainPID", "truetime@a")[0]
+    def process(self, unit="truetime@a"):
+        """The number there of the process that a unit starts."""
+        return self.systemctl("show", "-P", "MainPID", unit)[0]
+
+    def program(self, unit="truetime@a"):
+        """The number there of the process that is the program, below that one or in its place."""
+        main = self.process(unit)
+        return self.do("cat", f"/proc/{main}/task/{main}/children").said.strip() or main
 
 
 def booted(trial):
@@ -429,10 +453,12 @@ def by_systemd(trial):
     trial.equal("reload of a bad file", (host.systemctl("reload", "truetime@a")[1], host.process()), (1, before))
     put(host, GOOD)
     try_standing(trial, host)
-    host.do("kill", "-KILL", host.process())
-    trial.check("killed", eventually(lambda: host.do(*ASK).status == 0), "it is not started again")
+    for which in (host.program, host.process):
+        before = host.process()
+        host.do("kill", "-KILL", which())
+        trial.check("killed", eventually(lambda: host.process() not in (before, "0") and host.do(*ASK).status == 0), "it is not started again")
     try_masters(trial, host)
-    trial.equal("stop", host.systemctl("stop", "truetime@a"), ("", 0))
+    try_stops(trial, host)
     age(host, 100)
     trial.equal("watch, stopped", host.systemctl("start", "truetime-watch@a"), ("", 0))
     trial.equal("stopped", host.systemctl("is-active", "truetime@a")[0], "inactive")
@@ -469,24 +495,40 @@ def try_owners(trial, host):
 def try_sandbox(trial, host):
     """What the kernel lets the processes of the units do."""
     for unit, limit in ("truetime@a", "16384"), ("truetime-master@m0", None):
-        process = host.systemctl("show", "-P", "MainPID", unit)[0]
+        process = host.program(unit)
         status = dict(line.split(":\t", 1) for line in host.do("cat", f"/proc/{process}/status").said.splitlines() if ":\t" in line)
         user = host.do("id", "-u", "truetime").said.strip()
         trial.equal(f"{unit}: user", set(status.get("Uid", "").split()), {user})
         trial.equal(f"{unit}: umask, new privileges, filter of calls", [status.get(key) for key in ("Umask", "NoNewPrivs", "Seccomp")], ["0022", "1", "2"])
         trial.equal(f"{unit}: capabilities", {int(status.get(key, "1"), 16) for key in ("CapInh", "CapPrm", "CapEff", "CapBnd", "CapAmb")}, {0})
         found = re.search(r"^Max open files +(\d+) +(\d+)", host.do("cat", f"/proc/{process}/limits").said, re.MULTILINE)
+        ignored = int(status.get("SigIgn", "0"), 16)
+        trial.equal(f"{unit}: signals that it ignores", [bool(ignored >> number - 1 & 1) for number in (signal.SIGXFSZ, signal.SIGTERM, signal.SIGINT)],
+                    [True, *[unit == "truetime@a"] * 2])
         trial.check(f"{unit}: descriptors", found and limit in (None, found[1]) and limit in (None, found[2]), f"{found and found[0]}")
+
+
+def try_stops(trial, host):
+    """A machine that is stopped ends in order within a second, and a master at once; no process of theirs is left."""
+    trial.equal("signals of the unit", host.systemctl("show", "-P", "KillMode", "truetime@a")[0], "mixed")
+    for unit in "truetime-master@m2", "truetime@a":
+        host.do("journalctl", "--sync")
+        before, began = host.do("journalctl", "--no-pager", "-o", "cat", "-u", unit).said, time.monotonic()
+        trial.equal(f"stop {unit}", host.systemctl("stop", unit), ("", 0))
+        trial.between(f"stop {unit}: seconds", 0, time.monotonic() - began, 1 + BUSY_S)
+        host.do("journalctl", "--sync")
+        said = host.do("journalctl", "--no-pager", "-o", "cat", "-u", unit).said.removeprefix(before)
+        trial.equal(f"stop {unit}: ended", said.count("event=ended"), int(unit == "truetime@a"))
+        # A unit that failed is kept, with why.
+        trial.equal(f"stop {unit}: result", host.systemctl("show", "-P", "Result", unit)[0], "success")
 
 
 def try_masters(trial, host):
     """A master that is killed is started again, and the machine goes on meanwhile."""
-    def process():
-        return host.systemctl("show", "-P", "MainPID", "truetime-master@m0")[0]
-
-    before, machine = process(), host.process()
+    master = "truetime-master@m0"
+    before, machine = host.process(master), host.process()
     host.do("kill", "-KILL", before)
-    trial.check("a master that is killed", eventually(lambda: process() not in (before, "0")), "it is not started again")
+    trial.check("a master that is killed", eventually(lambda: host.process(master) not in (before, "0")), "it is not started again")
     trial.equal("the machine of a master that is killed", (host.process(), host.do(*ASK).status), (machine, 0))
 
 
@@ -505,11 +547,11 @@ def try_bad_files(trial, host):
 
 def try_standing(trial, host):
     """A machine that stands still is restarted by what looks after it."""
-    before = host.process()
-    trial.equal("watch", (host.systemctl("start", "truetime-watch@a"), host.process()), (("", 0), before))
+    before = host.program()
+    trial.equal("watch", (host.systemctl("start", "truetime-watch@a"), host.program()), (("", 0), before))
     host.do("kill", "-STOP", before)
     time.sleep(0.1)
     age(host, 100)
     trial.equal("watch, standing still", host.systemctl("start", "truetime-watch@a"), ("", 0))
-    trial.check("watch, standing still", host.process() not in (before, "0"), "it is not restarted")
+    trial.check("watch, standing still", host.program() not in (before, "0"), "it is not restarted")
     trial.equal("asked behind that", host.do(*ASK).status, 0)

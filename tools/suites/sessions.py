@@ -7,6 +7,7 @@
 - Sessions of one worker do not wait for each other: not for commits that wait, nor for a client that reads nothing, and that loses no reply.
 - Lines that come in pieces, or before the client closes its side, are answered. A client is let go after `idle` without a whole line.
 - A machine with 500 sessions ends soon. One session more than there are workers is served at once, and so are those behind it.
+- Where a call of the system fails, as the cases in sessions_of_failures.py say, nobody is left without a reply and without an end.
 
 How long something takes is printed. The bounds leave room for a busy host, and to some is added for how long machine and users could run
 and had no processor; where one was passed, the case is tried once more alone.
@@ -16,11 +17,12 @@ import itertools
 import os
 import resource
 import selectors
+import signal
 import socket
 import statistics
 import time
 
-from harness.processes import SECOND, WORKERS
+from harness.processes import SECOND, WORKERS, free_port
 from harness.suite import Suite
 from harness.trial import Trial
 from harness.trouble import reset
@@ -121,14 +123,15 @@ def in_us(times):
 def the_most_silent_makes_room(trial):
     node = trial.running_node(trial.masters(3), workers=4)
     with contextlib.ExitStack() as stack:
-        doors = []
-        for number in range(4 * MOST):
-            doors.append(Door(stack, node.address))
-            # The commits of the second four stay pending for all of this.
-            said = doors[-1].ask(f"commit 1 {time.time_ns() + 9 * SECOND}" if 4 <= number < 8 else "now")
-            if said.split()[0] != ("waiting" if 4 <= number < 8 else "now"):
+        doors = [Door(stack, node.address) for _ in range(4 * MOST)]
+        if lost := sum(not door.is_open() for door in doors):
+            yield f"{lost} of {len(doors)} are not served"
+        # The four with commits and the four behind them are the most silent: the commits stay pending for all of this, unless the host is busy.
+        floor = time.time_ns() + 9 * SECOND
+        for number, door in enumerate(doors[4:12], 4):
+            if (said := door.ask(f"commit 1 {floor}" if number < 8 else "now")).split()[0] != ("waiting" if number < 8 else "now"):
                 yield f"session {number} has the reply {said!r}"
-        for door in doors[:4]:
+        for door in doors[:4] + doors[12:]:
             door.now()
         yield from node.comes_to("sessions_open", 4 * MOST, 1)
         one_more = Door(stack, node.address)
@@ -146,6 +149,9 @@ def the_most_silent_makes_room(trial):
         if lost := sum(not door.is_open() for door in more):
             yield f"{lost} of {len(more)} new sessions were closed, though others were silent for longer"
         open_now = sum(door.is_open() for door in left + more)
+        if time.time_ns() >= floor:
+            trial.note("the host was too busy to see that pending commits keep their sessions")
+            return
         if open_now != 4 * MOST - 4:
             yield f"{open_now} of 2,000 sessions are open beside four with commits, and {4 * MOST - 4} are wanted"
         for number, door in enumerate(doors[4:8]):
@@ -520,6 +526,35 @@ def lines_in_pieces(trial):
                         yield f"of {number} sessions: {words} where the lines are cut at {at}"
                     while door.ask("commit 2 0").startswith("waiting"):
                         pass
+
+
+@suite.case()
+def a_machine_that_is_stopped(trial):
+    """And goes on at once: that interrupts what waits. Nobody is closed, neither a session alone nor several of one worker, whether silent, in
+    the midst of a line or with a commit that waits; so it is of who looks at its pages and asks its masters, and of new ones."""
+    masters, port = trial.masters(3), free_port(socket.SOCK_STREAM)
+    node = trial.running_node(masters, workers=1, poll="200ms", http=f"127.0.0.1:{port}")
+    for number in (1, 3):
+        with contextlib.ExitStack() as stack:
+            doors = [Door(stack, node.address) for _ in range(number)]
+            page = Door(stack, ("127.0.0.1", port))
+            page.send(b"GET /health HTTP/1.1\r\n")
+            for door, words in zip(doors, (b"", b"no", f"commit 1 {time.time_ns() + SECOND}\n".encode())):
+                door.send(words)
+            for sent in 20 * (signal.SIGSTOP, signal.SIGCONT):
+                for process in (*masters, node):
+                    process.running.send_signal(sent)
+                time.sleep(0.02)  # the first of two signals at once would be lost
+            for door, words, wanted in zip(doors, (b"now\n", b"w\n", b"commit 1 0\n"), ("now", "now", "waiting committed")):
+                door.send(words)
+                said = door.reply().split()[:1]
+                if said[:1] != wanted.split()[:1]:
+                    yield f"of {number} sessions one has {said} in place of {wanted}"
+            page.send(b"\r\n")
+            if not page.reply().startswith("HTTP/1.1 200"):
+                yield f"beside {number} sessions the page is not there"
+            if wrong := Door(stack, node.address).now()[0]:
+                yield f"a new session beside {number}: {wrong}"
 
 
 @suite.case()

@@ -2,7 +2,7 @@
 
 `serve` has clients over TCP and its Unix socket, each with readings, commits and a lease, then readers of its shared file, and is ended by the
 end of its input; `serve again` begins with the files of a life that was killed. Where one call fails, the start may refuse by a number that
-docs/FORMATS.md has for it, with its status; else the life has to go on: a client may be told of the failure or lose its connection, and is
+docs/reference/refusals.md has for it, with its status; else the life has to go on: a client may be told of the failure or lose its connection, and is
 served when it comes again; publications have to come, each reading has to hold the time, no commit may be out of order, and the end has to be in
 order, with the epoch and the shared file as they should be. Where a kind of call fails for good, nothing may be wrong, and the end is the same;
 where a signal ends a call, no client may know of it.
@@ -223,19 +223,12 @@ class Life(Machine):
         if self.running.poll() is None:
             self.outcome.late.append(fault)
 
-    def patience(self):
-        """How long a session waits for a reply, in seconds. Where the clock fails at a release step, what went by since is never known, and the
-        worker holds that commit's next line again and again: the session counts as lost, and the next one has to go well."""
-        if self.outcome.is_lasting():
-            return 0.2
-        return 2 if self.outcome.kind == "FAIL_CLOCK_GETTIME" else LONGEST_S
-
     def use(self, address):
         """Whether a session goes well. One in which a call fails is lost or refused."""
         if isinstance(address, str) and not os.path.exists(address):
             raise ConnectionRefusedError
         try:
-            with truetime.Session(address, self.patience()) as session:
+            with truetime.Session(address, 0.2 if self.outcome.is_lasting() else LONGEST_S) as session:
                 self.seen.read(session)
                 self.has_served = True
                 self.seen.commit(session, "A")
@@ -251,9 +244,11 @@ class Life(Machine):
                 self.outcome.wrong.append(f"a client was told {refused.number}")
         except ConnectionRefusedError:
             raise
-        except OSError:
+        except OSError as lost:
             self.seen.lost += 1
             self.outcome.wrong += ["a client was lost"] if self.outcome.is_ended_by_signal() else []
+            if isinstance(lost.__cause__ or lost, TimeoutError) and not self.outcome.is_lasting():
+                self.outcome.wrong.append(f"a client waited {LONGEST_S} s for a reply: {lost}")
         return False
 
     def read_shared(self):

@@ -7,6 +7,7 @@ measured beside it. Masters are scripts that keep what a machine sends.
 - Each setting of a machine, each option of `master` and each of its acts has its effect, with a value that is no default.
 - Each number of the status and of the shared file is that of what was done: rounds of a known kind, packets of each kind that is refused
   by its number, answers of known age, delay, span and rate, clients with known lines, calls that tools/spoil_calls.c spoils.
+- What a master answers is known to the nanosecond where its clocks stand still, and move where they are told.
 - Each kind of line of the log is provoked, with its numbers; one before which others were left out says how many.
 - Each wait and deadline is as long as the list of times says, by what a command asks the system for (tools/note_calls.c), or by a clock that
   is moved on. What has to last is synced before and behind its rename. Files, folders and the socket have their modes and their owner.

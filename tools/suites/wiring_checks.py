@@ -1,4 +1,4 @@
-"""What the suite `wiring` checks, by the names of docs/FORMATS.md, and what its scenarios share."""
+"""What the suite `wiring` checks, by the names of docs/reference/, and what its scenarios share."""
 import contextlib
 import itertools
 import os

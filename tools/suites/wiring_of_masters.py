@@ -9,8 +9,8 @@ import time
 from harness.metrics import faults_in
 from harness.processes import SECOND, Process, free_port
 from harness.trouble import Spoils
-from harness.wire import ANSWER_BYTES, ANSWERS, REQUEST, Poll, ends_in
-from harness.program import read_text
+from harness.wire import ANSWER_BYTES, ANSWERS, REQUEST, SPAN, Poll, ends_in
+from harness.program import read_text, write
 from suites.wiring import suite
 from suites.wiring_checks import eventually, put_keys, sealed
 
@@ -94,6 +94,42 @@ def acts_of_masters(trial):
         last = packet or last
 
 
+def first_format(packet):
+    """A poll or an answer of TTP2 as TTP1 has it: without the epoch."""
+    return b"TTP1" + packet[4:16] + packet[24:]
+
+
+@suite.case()
+def formats_of_polls(trial):
+    """Each poll is answered in its own format, by a master and by one with acts. What is no poll takes no act, and the last act goes on."""
+    asked = Asked(trial, 3, uncertainty=[7])
+    acting = Asked(trial, 1, uncertainty=[7], act=["honest", "honest", "silent", "garbage"])
+    trial.logs(asked.process, "master_started")
+    trial.logs(acting.process, "master_started")
+
+    def poll(one, change, seconds=5.0):
+        """What comes back to a poll that is changed so; and whether it is the answer to it."""
+        one.nonce += 1
+        before = time.time_ns()
+        one.door.settimeout(seconds)
+        with contextlib.suppress(OSError):
+            one.door.send(change(Poll(machine=MACHINE, source=one.source, nonce=one.nonce, epoch=EPOCH).packet))
+            packet = one.door.recv(100)
+            low, high = SPAN.unpack(packet[-SPAN.size:])
+            is_near = high - low == 14 and before <= low + 7 <= time.time_ns()
+            return packet, is_near and packet == change(one.head() + SPAN.pack(low, high))
+        return None, False
+
+    for change in (first_format, bytes, first_format):
+        packet, is_right = poll(asked, change)
+        trial.check("option source", is_right, f"{packet and packet.hex(' ', 8)} to a poll in the format of {change.__name__}")
+    wanted = [(first_format, True), (bytes, True), (first_format, None), (bytes, GARBAGE), (first_format, GARBAGE[:32])]
+    for number, (change, answer) in enumerate(wanted):
+        acting.door.send(b"not a message")
+        packet, is_right = poll(acting, change, 0.3 if answer is None else 5)
+        trial.check("option act", is_right if answer is True else packet == answer, f"{packet and packet.hex(' ', 8)} to poll {number}")
+
+
 @suite.case()
 def logs_of_masters(trial):
     """In either form."""
@@ -130,9 +166,9 @@ def master_whose_address_is_taken(trial):
 class Spoiled(Process):
     """A master whose calls are spoiled."""
 
-    def __init__(self, trial, spoils, words, prefix=()):
+    def __init__(self, trial, spoils, words, prefix=(), name="spoiled"):
         self.environment, self.prefix = spoils.environment, prefix
-        super().__init__(trial, "spoiled", words)
+        super().__init__(trial, name, words)
 
     def start(self):
         with open(self.log, "ab") as log:
@@ -216,6 +252,18 @@ def keys_of_masters(trial):
     for line in wanted:
         trial.check("option status", eventually(lambda line=line: re.search(f"^{line}$", read_text(status), re.MULTILINE)), f"no {line}")
     trial.equal("option status", [fault for fault in faults_in(read_text(status)) if not fault.startswith("truetime_master_server_")], [])
+
+
+@suite.case()
+def texts_of_keys(trial):
+    """Comments and empty lines are skipped, a name is for the reader alone, the last line need not end, and a line of `key` is one."""
+    keys, made = os.path.join(trial.room, "keys"), trial.command("key", "--id", "9").said
+    write(keys, f"# keys of host a\n\n7 {OLD.hex()} master-0\n{made}4294967295 {NEW.hex()}".encode())
+    os.chmod(keys, 0o600)
+    asked = Asked(trial, 3, uncertainty=[5], keys=[keys])
+    trial.logs(asked.process, "master_started")
+    for number, key in ((7, OLD), (9, bytes.fromhex(made.split()[1])), (4294967295, NEW)):
+        trial.check("option keys", is_answered(asked, number, key, 5), f"no answer under the key {number}")
 
 
 @suite.case()

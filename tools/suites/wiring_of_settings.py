@@ -1,6 +1,7 @@
 """Scenarios of the suite `wiring`: each setting of a machine has its effect."""
 import contextlib
 import os
+import re
 import resource
 import shutil
 import socket
@@ -19,6 +20,54 @@ from suites.wiring_checks import eventually, lies, published, status_of
 MILLISECOND = SECOND // 1000
 # The greatest drift, which shows soonest.
 DRIFT = 100_000
+# The ranges and defaults that the help of a command tells of its options, in order. That they hold is proved, or seen in other scenarios.
+IN_HELP = {
+    "age": {"drift": "100000 200"},
+    "twin": {"event": "0"},
+    "master": {
+        "source": "0 15", "offset": "0", "ntp": "16", "faulty": "0", "margin": "0", "every": "1ms 86400s 64s 1ms", "drift": "100000 200",
+        "max-age": "1ms 86400s 1024s", "ntp-key": "4294967295", "log": "text",
+    },
+    "ask": {"retry": "100 9999 50"},
+    "top": {"columns": "40 300"},
+    "key": {"id": "4294967295"},
+}
+# The other numbers in the help of a command: refusals and bounds, in order.
+NUMBERS_IN_HELP = {
+    "": "1048576 1604 1605 1501 1502 304 1601 1603",
+    "age": "500 900 30000000900 30994000000 31006001401 1602 201 208 405 402",
+    "fuse": "1603 501 502 16 503 504",
+    "check": "1603 606 501 503 601 605",
+    "run": "1603 1301 1302 1303 1304 1305 4096",
+    "trace": "10 50 45 55",
+    "twin": "1603 1301 1305 1401 1402",
+    "live": "1604 1605 1501 1502 304 1603 1301 1305 1302 1303 802 804",
+    "judge": "1603",
+    "master": "256 0600 0400 1601 1805 2211 2212 2213 0600 0400 2214 2216 1604 1603 2411 2414 1829 1831 1501 1816",
+    "serve": "1048576 1601 1604 1603 1801 1806 1810 1817 1818 1825 1826 1807 "
+             "1816 1807 1809 1811 1812 1819 1828 1829 1831 1830 2211 2216 1827",
+    "ask": "801 10000 128 30 1601 1805 1501 1604",
+    "read": "1601 801 802 803 1701 1702 1703 1704 1708",
+    "top": "80 64 1601 40 300 1805 1603 1604 1801 1828 1803 1501 2601 2602",
+    "key": "32 1601 1829",
+}
+
+
+@suite.case()
+def numbers_in_help(trial):
+    """The help of each command tells the ranges and defaults of its options and no others, and the refusals and bounds that it has."""
+    commands = re.findall(r"^  ([a-z]+) ", run([trial.program, "--help"]).said.split("\nOptions:")[0], re.MULTILINE)
+    options, numbers = {}, {}
+    for command in ["", *sorted({*commands} - {"help"})]:
+        said = run([trial.program, *command.split(), "--help"]).said.replace("127.0.0.1", "")
+        for option, text in re.findall(r"^ +--([a-z-]+) <\S+> +(.*)", said, re.MULTILINE):
+            if found := re.findall(r"(?<![\w.])\d+(?:ms|s)?(?![\w.])|(?<=default: )[a-z]+", text):
+                options.setdefault(command, {})[option] = " ".join(found)
+        lines = [line for line in said.splitlines() if not re.match(r" +(-\w, )?--|.*\| *ttd |  (ttd|echo|printf) ", line)]
+        if found := re.findall(r"(?<![\w.:])\d{2,}(?!\w|\.\d)", "\n".join(lines)):
+            numbers[command] = " ".join(found)
+    trial.equal("help of options", options, IN_HELP)
+    trial.equal("help", numbers, NUMBERS_IN_HELP)
 
 
 @suite.case()
