@@ -3,10 +3,12 @@ import argparse
 import dataclasses
 import os
 import time
+import typing
+from concurrent.futures import ProcessPoolExecutor, as_completed
 from xml.etree import ElementTree
 
 from harness.program import PROGRAM, STAMPS
-from harness.suite import NAMES, choose, wrong_in
+from harness.suite import NAMES, SUITES, Case, Suite, choose, wrong_in
 from harness.trial import Options, Result
 
 
@@ -75,11 +77,9 @@ def main(about: str) -> int:
     if given.list:
         print("".join(f"{case.path}\n" for _, cases in chosen for case in cases), end="")
         return 0
-    results, seconds, options = {}, {}, options_of(given)
-    for suite, cases in chosen:  # a case that is named may take long
-        began = time.monotonic()
-        results[suite.name] = suite.run(cases, dataclasses.replace(options, long=given.long or cases != suite.cases), max(1, given.times))
-        seconds[suite.name] = time.monotonic() - began
+    results, seconds = {}, {}
+    for name, of_suite, took in run_all(chosen, options_of(given), max(1, given.times)):
+        results[name], seconds[name] = of_suite, took
     if given.junit:
         write_junit(given.junit, results)
     wrong = [name for name, of_suite in results.items() if wrong_in(of_suite)]
@@ -87,6 +87,26 @@ def main(about: str) -> int:
         tell_again(results, seconds)
         print(f"check: {len(results)} suites, {len(wrong)} wrong{': ' if wrong else ''}{' '.join(wrong)}")
     return bool(wrong)
+
+
+def run_all(chosen: list[tuple[Suite, list[Case]]], options: Options, times: int) -> typing.Iterator[tuple[str, list[Result], float]]:
+    """Runs these cases, two suites at once of those that wait more than they work; the results of each suite and its seconds, as it ends."""
+    asked = [(suite.name, suite.indices(cases), options, times) for suite, cases in chosen]
+    beside = [words for words in asked if SUITES[words[0]].beside_s]
+    if len(beside) < 2:
+        beside = []
+    yield from (run_suite(*words) for words in asked if words not in beside)
+    with ProcessPoolExecutor(2) as pool:
+        longest_first = sorted(beside, key=lambda words: -SUITES[words[0]].beside_s)
+        yield from (one.result() for one in as_completed([pool.submit(run_suite, *words) for words in longest_first]))
+
+
+def run_suite(name: str, numbers: list[int], options: Options, times: int) -> tuple[str, list[Result], float]:
+    """Runs these cases of a suite; its name, the results, and how long it took. A case that is named may take long."""
+    began, suite = time.monotonic(), SUITES[name]
+    cases = [suite.cases[number] for number in numbers]
+    results = suite.run(cases, dataclasses.replace(options, long=options.long or cases != suite.cases), times)
+    return name, results, time.monotonic() - began
 
 
 def tell_again(results: dict[str, list[Result]], seconds: dict[str, float]) -> None:

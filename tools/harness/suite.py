@@ -89,12 +89,13 @@ def time_limit(seconds: int):
 
 class Suite:
     """Cases, how many of them run at once and how long, and how often one that was wrong is tried again when nothing runs beside it,
-    unless one of these words stands in what is wrong: no busy host does that. A suite that is not quick is left out by --quick."""
+    unless one of these words stands in what is wrong: no busy host does that. A suite that is not quick is left out by --quick. One with
+    `beside_s`, the seconds that it takes, runs beside another such, behind those without."""
 
     def __init__(self, module: str, trial: type[Trial] = Trial, at_once: int = 1, longest_s: int = 0, again: int = 0, never: tuple[str, ...] = (),
-                 quick: bool = True):
+                 quick: bool = True, beside_s: int = 0):
         self.name, self.trial, self.at_once, self.longest_s, self.again = module.rpartition(".")[2], trial, at_once, longest_s, again
-        self.never, self.quick = never, quick
+        self.never, self.quick, self.beside_s = never, quick, beside_s
         self.found: list[Case] = []
         self.families: list[typing.Callable] = []
         self.common = self.of_all = None
@@ -136,6 +137,10 @@ class Suite:
     def cases(self) -> list[Case]:
         """All of its cases, in their order."""
         return self.found + [Case(self, name, call, tuple(words)) for make in self.families for name, call, *words in make()]
+
+    def indices(self, cases: list[Case]) -> list[int]:
+        """Where these cases stand, for another process."""
+        return [self.cases.index(case) for case in cases]
 
     def sharing(self, options: Options, stack: contextlib.ExitStack) -> typing.Any:
         """What its cases share, until the stack ends."""

@@ -16,6 +16,7 @@ from harness.processes import Fault, Machine, free_port, truetime
 from harness.program import compile_c, read_text, write
 
 NOBODY = 65534
+FIN_WAIT1 = 4  # of the kernel's states of TCP
 POLL_S, WAIT_S = 0.1, 0.1
 
 
@@ -472,15 +473,32 @@ def reset(door):
     door.close()
 
 
+def end_connection(door):
+    """Closes a connection in order, once the other side's kernel has taken its end."""
+    give_up = time.monotonic() + 10
+    with door:
+        door.shutdown(socket.SHUT_WR)
+        while door.getsockopt(socket.IPPROTO_TCP, socket.TCP_INFO, 1)[0] == FIN_WAIT1 and time.monotonic() < give_up:
+            time.sleep(0.001)
+
+
+@contextlib.contextmanager
+def filled(door):
+    """Lets as many wait at a listener as may, until one more does not get in."""
+    with contextlib.ExitStack() as clients:
+        with contextlib.suppress(BlockingIOError, TimeoutError):
+            while True:
+                client = clients.enter_context(socket.socket(door.family))
+                client.settimeout(0.1)
+                client.connect(door.getsockname())
+        yield
+
+
 @contextlib.contextmanager
 def full_listener(path):
     """A listener at a Unix socket, which never accepts and whose backlog is full."""
-    with socket.socket(socket.AF_UNIX) as door, contextlib.ExitStack() as clients:
+    with socket.socket(socket.AF_UNIX) as door:
         door.bind(path)
         door.listen(0)
-        with contextlib.suppress(BlockingIOError):
-            while True:
-                client = clients.enter_context(socket.socket(socket.AF_UNIX))
-                client.setblocking(False)
-                client.connect(path)
-        yield
+        with filled(door):
+            yield

@@ -24,7 +24,7 @@ from harness.program import in_top, read_text, run, write
 from harness.suite import Suite, wrong_in
 from suites.wiring_checks import eventually
 
-suite = Suite(__name__, at_once=4, longest_s=60, again=1)
+suite = Suite(__name__, at_once=4, longest_s=60, again=1, beside_s=14)
 RULES, TESTS, DASHBOARD = "packaging/alerts.yml", "packaging/alerts_test.yml", "packaging/dashboard.json"
 FIRING = 'count by (alertname, machine, source) (ALERTS{alertstate="firing"})'
 # Settings that are no defaults, and those by which the machine of this suite runs: a round takes a quarter of a second.

@@ -21,7 +21,7 @@ from harness.program import WARNINGS, in_top, read, read_text, run, write
 from harness.suite import Suite, wrong_in
 from suites.clients import file_of, go_in, has_go, has_tokio, registry_for_cargo
 
-suite = Suite(__name__, at_once=4, quick=False)
+suite = Suite(__name__, at_once=4, quick=False, beside_s=13)
 CLIENTS = in_top("clients")
 VERSION = "0.3.0"
 POM = "{http://maven.apache.org/POM/4.0.0}"

@@ -11,6 +11,7 @@ import threading
 import time
 from concurrent.futures import ThreadPoolExecutor
 
+from harness.trouble import end_connection, filled
 from suites.clients import MAX, SECOND, Reader, session_probes, suite
 from suites.clients_of_openings import Answering, Listening
 from suites.clients_of_waits import wants
@@ -204,38 +205,35 @@ def commits_that_were_begun(trial):
             trial.equal(f"{loop.name}: lines that do not fit", server.wrong, [])
 
 
-def time_of_slow_connection(trial, name, words):
-    """A session that has ended, and whose next connection takes a second: SYN is sent again then. No reply comes there. How long the call
-    takes, in seconds."""
+def tell_slow_connection(name, words):
+    """A session that has ended, and whose next connection takes a second: SYN is sent again then. No reply comes there. What the call gives,
+    and how long it takes, in seconds."""
     with socket.socket() as listener, Reader(words, "session") as probe:
         listener.bind(("127.0.0.1", 0))
         listener.listen(0)
-        wants(trial, name, probe.say, f"open tcp {listener.getsockname()[1]} 1600", "open")
-        listener.accept()[0].close()
-        listener.setblocking(False)
-        with contextlib.ExitStack() as others:  # who take all places for a while
-            for _ in range(3):
-                one = others.enter_context(socket.socket())
-                one.setblocking(False)
-                one.connect_ex(listener.getsockname())
+        if (opened := probe.say(f"open tcp {listener.getsockname()[1]} 1600")) != "open":
+            return opened, 0
+        end_connection(listener.accept()[0])
+        with filled(listener):
             began = time.monotonic()
             probe.probe.stdin.write("now\n")
             time.sleep(0.3)
+        listener.setblocking(False)
         with contextlib.suppress(BlockingIOError):
             while True:
                 listener.accept()[0].close()
-        trial.equal(f"{name}: no reply on a new connection", probe.probe.stdout.readline().strip(), "timed out")
+        said = probe.probe.stdout.readline().strip()
         took = time.monotonic() - began
-        wants(trial, name, probe.say, "close", "closed")
-    return took
+        return said if probe.say("close") == "closed" else "not closed", took
 
 
 def try_slow_connection(trial, name, words):
-    """It takes no longer than the time-out, in one of three tries on a busy host."""
-    for _ in range(3):
-        took = time_of_slow_connection(trial, name, words)
-        if took <= 2.2:
+    """It takes no longer than the time-out, in one of two tries on a busy host."""
+    for _ in range(2):
+        said, took = tell_slow_connection(name, words)
+        if said == "timed out" and 1.5 <= took <= 2.2:
             break
+    trial.equal(f"{name}: no reply on a new connection", said, "timed out")
     trial.between(f"{name}: in seconds", 1.5, took, 2.2)
 
 
@@ -245,13 +243,9 @@ def said_behind_slow_connection(trial, name, words):
         listener.bind(("127.0.0.1", 0))
         listener.listen(0)
         wants(trial, name, probe.say, f"open tcp {listener.getsockname()[1]} 1800", "open")
-        listener.accept()[0].close()
+        end_connection(listener.accept()[0])
         listener.settimeout(10)
-        with contextlib.ExitStack() as others:  # who take all places for a while
-            for _ in range(3):
-                one = others.enter_context(socket.socket())
-                one.setblocking(False)
-                one.connect_ex(listener.getsockname())
+        with filled(listener):
             probe.probe.stdin.write("now\n")
             time.sleep(0.3)
         came = b""
@@ -272,8 +266,8 @@ def said_behind_slow_connection(trial, name, words):
 
 
 def try_behind_slow_connection(trial, name, words):
-    """The reply has the whole time-out, in one of three tries on a busy host."""
-    for _ in range(3):
+    """The reply has the whole time-out, in one of two tries on a busy host."""
+    for _ in range(2):
         said = said_behind_slow_connection(trial, name, words)
         if said == ["5 15", "7 9", "closed"]:
             return

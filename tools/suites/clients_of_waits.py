@@ -13,6 +13,7 @@ import threading
 import time
 from concurrent.futures import ThreadPoolExecutor
 
+from harness.trouble import filled
 from suites.clients import MAX, Reader, session_probes, suite
 from suites.clients_of_openings import Answering, Listening
 from suites.clients_of_stampers import Shared
@@ -329,15 +330,11 @@ def interrupts(trial):
 def full_socket(address=("127.0.0.1", 0)):
     """A socket that lets nobody in any more: one of TCP, or one at a path."""
     family = socket.AF_UNIX if isinstance(address, str) else socket.AF_INET
-    with contextlib.ExitStack() as stack:
-        full = stack.enter_context(socket.socket(family))
+    with socket.socket(family) as full:
         full.bind(address)
         full.listen(0)
-        for _ in range(3):
-            one = stack.enter_context(socket.socket(family))
-            one.setblocking(False)
-            one.connect_ex(full.getsockname())
-        yield full
+        with filled(full):
+            yield full
 
 
 def try_full_path(trial, name, words, path):

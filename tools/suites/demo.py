@@ -6,7 +6,7 @@ import threading
 from harness.program import in_top, run
 from harness.suite import Suite
 
-suite = Suite(__name__)
+suite = Suite(__name__, beside_s=18)
 
 
 class Passed:

@@ -8,7 +8,7 @@ from harness.program import in_top, run
 from harness.suite import Suite, wrong_in
 from suites.clients import go_in, has_go
 
-suite = Suite(__name__, quick=False)
+suite = Suite(__name__, quick=False, beside_s=49)
 FOLDER = in_top("demo/failover")
 # On a machine that is slow for a while etcd may answer too late, or a control's leaders follow each other too late for the judge to see
 # anything. Then the run is made once more, and after that it is noted: no fault of the service was seen, and none could be.

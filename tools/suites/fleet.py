@@ -28,7 +28,7 @@ from lab.hosts import missing
 from lab.runs import Run
 from lab.shard_runs import ShardRun
 
-suite = Suite(__name__, again=1, never=("the reading", "out of order", "stamps"), quick=False)
+suite = Suite(__name__, again=1, never=("the reading", "out of order", "stamps"), quick=False, beside_s=190)
 
 
 @suite.case(missing=missing)

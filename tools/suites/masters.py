@@ -15,7 +15,7 @@ from lab import documented_masters, master_runs, widths
 from lab.servers import missing
 from lab.upsets import UPSETS
 
-suite = Suite(__name__, at_once=10, longest_s=120, again=1, quick=False)
+suite = Suite(__name__, at_once=10, longest_s=120, again=1, quick=False, beside_s=43)
 RUN_S, WIDTH_S = 30, 10
 
 

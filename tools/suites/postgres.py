@@ -38,7 +38,7 @@ from harness.suite import Suite, total, wrong_in
 # What no busy host does: then a case is not tried again.
 NEVER = ("with the wait:", "lost", "given twice", "another stamp", "without a stamp", "torn snapshots:", "behind a watermark", "panicked",
          "is not above")
-suite = Suite(__name__, longest_s=600, again=1, never=NEVER, quick=False)
+suite = Suite(__name__, longest_s=600, again=1, never=NEVER, quick=False, beside_s=51)
 WRITERS, SKEW_NS, UNCERTAINTY_NS = 8, 2_700_000, 3_000_000
 FORK = multiprocessing.get_context("fork")
 # PostgreSQL counts microseconds since 2000.

@@ -32,7 +32,7 @@ from harness.relay import Relay
 from harness.suite import Suite, seeds, wrong_in
 from harness.users import come_in_turn, never_read, places_for, read_shared, say_nothing, send_slowly, use
 
-suite = Suite(__name__, quick=False)
+suite = Suite(__name__, quick=False, beside_s=67)
 SOURCES, LIARS = 5, 2
 UNCERTAINTY = 1_000_000
 IDLE_S, LONGEST_STOP_S = 5, 5

@@ -26,7 +26,7 @@ from harness.redis import Failed, Server
 from harness.suite import Suite, total, wrong_in
 
 suite = Suite(__name__, longest_s=90, again=1, never=("with the wait:", "lost", "given twice", "another stamp", "torn snapshots:", "not above"),
-              quick=False)
+              quick=False, beside_s=9)
 WRITERS, SKEW_NS, UNCERTAINTY_NS = 6, 2_700_000, 3_000_000
 FORK = multiprocessing.get_context("fork")
 
