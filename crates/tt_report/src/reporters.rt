@@ -53,30 +53,56 @@ impl Reporter {
         let rt = *rt;
         let file = WholeFile::at_some(alloc, status)?;
         let files = EvidenceFiles::at_some(alloc, evidence)?;
-        let (has_file, has_evidence) = (file.is_some(), files.is_some());
-        let records = shared_records(alloc)?;
-        let theirs = Arc::try_clone(&records)?;
+        let reporter = Reporter {
+            records: shared_records(alloc)?,
+            has_file: file.is_some(),
+            has_evidence: files.is_some(),
+            has_pages: false,
+        };
+        reporter.start_lines(rt, alloc, format)?;
+        if let Some(file) = file {
+            reporter.start_statuses(rt, alloc, file)?;
+        }
+        if let Some(files) = files {
+            reporter.start_evidence(rt, files)?;
+        }
+        Ok(reporter)
+    }
+
+    /// Starts the thread that writes the log.
+    fn start_lines<R>(&self, rt: R, alloc: Global, format: LogFormat) -> Result<(), ReporterFault>
+    where
+        R: Threads + Wait + SystemClock + Eprint + Copy + Send + 'static,
+    {
+        let theirs = Arc::try_clone(&self.records)?;
         if thread::spawn(&rt, move || write_lines(&rt, alloc, &theirs, format)).is_err() {
             return Err(ReporterFault::NoThread);
         }
-        if let Some(file) = file {
-            let theirs = Arc::try_clone(&records)?;
-            if thread::spawn(&rt, move || write_statuses(&rt, alloc, &theirs, &file)).is_err() {
-                return Err(ReporterFault::NoThread);
-            }
+        Ok(())
+    }
+
+    /// Starts the thread that writes the status.
+    fn start_statuses<R>(&self, rt: R, alloc: Global, file: WholeFile) -> Result<(), ReporterFault>
+    where
+        R: Threads + Wait + SystemClock + Disk + Copy + Send + 'static,
+    {
+        let theirs = Arc::try_clone(&self.records)?;
+        if thread::spawn(&rt, move || write_statuses(&rt, alloc, &theirs, &file)).is_err() {
+            return Err(ReporterFault::NoThread);
         }
-        if let Some(files) = files {
-            let theirs = Arc::try_clone(&records)?;
-            if thread::spawn(&rt, move || write_evidence(&rt, &theirs, &files)).is_err() {
-                return Err(ReporterFault::NoThread);
-            }
+        Ok(())
+    }
+
+    /// Starts the thread that writes the evidence.
+    fn start_evidence<R>(&self, rt: R, files: EvidenceFiles) -> Result<(), ReporterFault>
+    where
+        R: Threads + Wait + SystemClock + Disk + Copy + Send + 'static,
+    {
+        let theirs = Arc::try_clone(&self.records)?;
+        if thread::spawn(&rt, move || write_evidence(&rt, &theirs, &files)).is_err() {
+            return Err(ReporterFault::NoThread);
         }
-        Ok(Reporter {
-            records,
-            has_file,
-            has_evidence,
-            has_pages: false,
-        })
+        Ok(())
     }
 
     /// Starts one more thread, which gives pages over HTTP at this address. It runs until the process ends, and is never
