@@ -15,7 +15,8 @@ ROWS = {
         "Age of the status": ("s", {
             '=timestamp(node_textfile_mtime_seconds{file=~".*truetime.*[.]prom", instance=~"$instance"}) - node_textfile_mtime_seconds':
                 "={{instance}} {{file}}"}),
-        "Broken assumptions, host asleep": ("short", {"=increase(truetime_assumption_breaks_totalS[1h])": "breaks",
+        "Broken assumptions, host asleep": ("short", {"=increase(truetime_broken_lives_totalS[1h])": "broken lives",
+                                                      "=increase(truetime_assumption_breaks_totalS[1h])": "breaks",
                                                       "=increase(truetime_slept_seconds_totalS[1h])": "seconds asleep",
                                                       "sleep_unseen": "sleep unseen"}),
         "Versions": ("short", {"build_info": "="}),

@@ -29,7 +29,7 @@ WANTED = {
     "TruetimeStatusOld": (f"timestamp(node_textfile_mtime_seconds{STATUS}) - node_textfile_mtime_seconds > 4 * scalar(truetime:round_seconds)",
                           "1m", PAGE),
     "TruetimeStatusGone": (f"last_over_time(node_textfile_mtime_seconds{STATUS}[1d]) unless node_textfile_mtime_seconds", "1m", PAGE),
-    "TruetimeAssumptionBroken": (risen("assumption_breaks_total", "15m"), AT_ONCE, PAGE),
+    "TruetimeAssumptionBroken": (f'{risen("broken_lives_total", "15m")} or {risen("assumption_breaks_total", "15m")}', AT_ONCE, PAGE),
     "TruetimeRestarted": ("changes(truetime_epoch[15m]) > 0", AT_ONCE, TICKET),
     "TruetimeEpochFell": ("resets(truetime_epoch[1d]) > 0", AT_ONCE, PAGE),
     "TruetimeSourcesOld": (not_within("needed_answer_age_seconds"), "30s", PAGE),

@@ -277,9 +277,11 @@ def breaks_in_a_row(trial):
         first = eventually(lambda end=ended: next((got for got in world.users.readings if got.before > end), None))
         trial.note(f"after break {marker - 1} the next reading comes {first and (first.after - ended) / MILLISECOND:.0f} ms after the end")
         time.sleep(0.3)
+        if (told := world.number("broken_lives_total")) != marker - 1:
+            yield f"after break {marker - 1} the status tells of {told} lives that ended so"
     if paused != [SECOND // 10 << number for number in range(4)]:
         yield f"the starts paused for {paused} ns"
-    if not (text := read(world.node.path("state/break"))).startswith(b"tt-break 1 4 "):
+    if not (text := read(world.node.path("state/break"))).startswith(b"tt-break 2 4 ") or not text.endswith(b" 4\n"):
         yield f"state/break has {text!r}"
 
 
@@ -300,7 +302,7 @@ def records_of_breaks(trial):
     wanted = [(1, now, 100_000_000), (9, now, 25_600_000_000), (10, now, 30_000_000_000), (2**64 - 1, now, 30_000_000_000),
               (1, max(now - 40 * SECOND, 0), 100_000_000), (1, max(now - 61 * SECOND, 0), 0), (1, now + 3600 * SECOND, 0)]
     for number, (breaks, clock, pause) in enumerate(wanted):
-        if (seen := pause_of(trial, f"{number}", b"tt-break 1 %d %d\n" % (breaks, clock))) != pause:
+        if (seen := pause_of(trial, f"{number}", b"tt-break 2 %d %d 5\n" % (breaks, clock))) != pause:
             yield f"after {breaks} breaks, the last one at {clock} and now at {now}, it pauses for {seen} ns"
-    if pause := pause_of(trial, "other", b"tt-break 2 1 1\n"):
+    if pause := pause_of(trial, "other", b"tt-break 1 1 1\n"):
         yield f"after another text it pauses for {pause} ns"

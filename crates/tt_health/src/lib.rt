@@ -35,7 +35,8 @@ pub use answers::{Answer, answer_laws, answers_after, nth_newest};
 pub use breaks::{aged_last, meets_last};
 pub use guests::disruptions_in;
 pub use pauses::{
-    BreakRecord, breaks_in_a_row, pause_before_start, record_after, record_of, record_text,
+    BreakRecord, breaks_in_a_row, breaks_recorded, pause_before_start, record_after, record_of,
+    record_text,
 };
 pub use rates::{Rate, Sample, Track};
 pub use sleeps::{Lead, Look, is_wide, narrowed, sleep_laws, slept_between};

@@ -1,7 +1,7 @@
 //! Starts after lives that ended by a break, and the record that is kept of them.
 
 ghost use Rattle.std.specs.Prelude.{◌≡◌, ◌≤◌, ℕ, MatchOption};
-ghost use Rattle.tt_health.specs.Pause.{IsBreakRecord, breaks_in_a_row as breaks_of, longest_pause, pause_of, record_after as next_record, text_of};
+ghost use Rattle.tt_health.specs.Pause.{IsBreakRecord, breaks_in_a_row as breaks_of, breaks_told, longest_pause, pause_of, record_after as next_record, text_of};
 ghost use Rattle.tt_health.specs.declared.pauses.BreakRecord.{BreakRecord as TheRecord};
 
 use arrayvec::ArrayVec;
@@ -16,21 +16,27 @@ const FIRST_PAUSE: u64 = 100_000_000;
 /// The longest pause, in nanoseconds.
 const LONGEST_PAUSE: u64 = 30_000_000_000;
 
-/// What is kept when a life ends by a break: how many breaks came in a row, this one among them, and what the monotonic
-/// clock of the host showed, in nanoseconds.
+/// What is kept when a life ends by a break: how many breaks came in a row, this one among them, what the monotonic
+/// clock of the host showed, in nanoseconds, and how many breaks there were of all lives whose records followed each
+/// other.
 #[derive(Clone, Copy)]
 pub struct BreakRecord {
     pub breaks: u64,
     pub clock: u64,
+    pub total: u64,
 }
 
-/// The text of a record: `tt-break 1 `, the number of breaks, a space and the clock reading, both in decimal digits, and
-/// a line feed. At most 53 bytes.
-pub fn record_text(last: &BreakRecord) -> ArrayVec<u8, 64>
+/// The text of a record: `tt-break 2`, the breaks in a row, the clock reading and all breaks, each behind a space and in
+/// decimal digits, and a line feed. At most 74 bytes.
+pub fn record_text(last: &BreakRecord) -> ArrayVec<u8, 80>
     ensures written { result.items ≡ text_of last.now }
 {
     let mut text = ArrayVec::new();
-    put_line(&mut text, "tt-break 1", &[last.breaks, last.clock]);
+    put_line(
+        &mut text,
+        "tt-break 2",
+        &[last.breaks, last.clock, last.total],
+    );
     text
 }
 
@@ -39,16 +45,27 @@ pub fn record_text(last: &BreakRecord) -> ArrayVec<u8, 64>
 pub fn record_of(text: &[u8]) -> Option<BreakRecord>
     ensures read { MatchOption result ((last : TheRecord) → IsBreakRecord last → text.now ≡ text_of last → ⊥) (λ last. text.now ≡ text_of last) }
 {
-    let Some(numbers) = numbers_behind(b"tt-break 1", text) else {
+    let Some(numbers) = numbers_behind(b"tt-break 2", text) else {
         return None;
     };
-    if numbers.len() != 2 {
+    if numbers.len() != 3 {
         return None;
     }
     Some(BreakRecord {
         breaks: numbers[0],
         clock: numbers[1],
+        total: numbers[2],
     })
+}
+
+/// How many breaks a record tells of, in all lives: 0 without one.
+pub fn breaks_recorded(last: Option<BreakRecord>) -> u64
+    ensures value { result ≡ breaks_told last }
+{
+    match last {
+        Some(record) => record.total,
+        None => 0,
+    }
 }
 
 /// How many lives in a row ended by a break before a start at the clock reading `now`, in nanoseconds: those of the
@@ -84,12 +101,13 @@ pub fn pause_before_start(breaks: u64) -> u64
 }
 
 /// The record of a life that ends by a break at the clock reading `now`, in nanoseconds: one more than the breaks in a
-/// row before it, at most 2^64 - 1.
+/// row before it, and one more than all breaks before it, each at most 2^64 - 1.
 pub fn record_after(last: Option<BreakRecord>, now: u64) -> BreakRecord
     ensures value { result ≡ next_record last now }
 {
     BreakRecord {
         breaks: breaks_in_a_row(last, now).saturating_add(1),
         clock: now,
+        total: breaks_recorded(last).saturating_add(1),
     }
 }

@@ -23,14 +23,15 @@ use std::time::{Clock as SystemClock, Duration};
 use tt_connections::reading_of;
 use tt_files::{open_regular, replace};
 use tt_health::{
-    BreakRecord, breaks_in_a_row, pause_before_start, record_after, record_of, record_text,
+    BreakRecord, breaks_in_a_row, breaks_recorded, pause_before_start, record_after, record_of,
+    record_text,
 };
 use tt_report::Reporter;
 use tt_shared::read_start;
 use tt_status::LogEvent;
 
 /// The most bytes of a record that are read.
-const MOST: usize = 64;
+const MOST: usize = 80;
 
 /// The permissions of a record: its owner alone may read and write it.
 const MODE: u32 = 0o600;
@@ -47,25 +48,26 @@ fn record_in<R: Files<File = File>>(rt: &R, alloc: Global, folder: &str) -> Opti
 }
 
 /// Pauses before a start that follows breaks less than a minute ago: a tenth of a second after the first, twice as long
-/// after each further one, and at most thirty seconds. It is logged.
+/// after each further one, and at most thirty seconds. It is logged. Answers how many lives ended by a break, as recorded.
 pub(crate) fn pause_after_breaks<R: Wait + SystemClock + Files<File = File>>(
     rt: &R,
     alloc: Global,
     reporter: &Reporter,
     folder: &str,
-) {
-    let Some(now) = reading_of(rt) else {
-        return;
-    };
-    let breaks = breaks_in_a_row(record_in(rt, alloc, folder), now);
-    let pause = pause_before_start(breaks);
-    if pause > 0 {
-        reporter.log(rt, LogEvent::StartPaused { pause, breaks });
-        thread::sleep(rt, Duration::from_nanos(pause));
+) -> u64 {
+    let last = record_in(rt, alloc, folder);
+    if let Some(now) = reading_of(rt) {
+        let breaks = breaks_in_a_row(last, now);
+        let pause = pause_before_start(breaks);
+        if pause > 0 {
+            reporter.log(rt, LogEvent::StartPaused { pause, breaks });
+            thread::sleep(rt, Duration::from_nanos(pause));
+        }
     }
+    breaks_recorded(last)
 }
 
-/// Records a break. If that fails, the next start does not pause.
+/// Records a break. If that fails, the next start does not pause, and does not count it.
 pub(crate) fn record_break<R: SystemClock + Files<File = File>>(
     rt: &R,
     alloc: Global,

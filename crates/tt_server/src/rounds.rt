@@ -300,7 +300,7 @@ fn break_off<R: Wait + SystemClock + Files<File = File>>(
     ensures renewal { poller.new.renewal ≡ poller.old.renewal }
 {
     let server = context.server;
-    if server.life.on_break == OnBreak::End {
+    if server.life.on_break != OnBreak::Warn {
         server.listeners.break_off();
         poller.broken = true;
         let nothing = withdrawn(
@@ -491,6 +491,7 @@ fn show<R: Wait + SystemClock + Files<File = File>>(
         config: server.life.config,
         known: poller.daemon.known() as u64,
         sharing: poller.share.is_written(now),
+        broken_lives: server.broken_lives,
     };
     let account = Account {
         totals: &poller.totals,

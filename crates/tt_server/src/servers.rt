@@ -27,17 +27,18 @@ use crate::workers::{WorkerHandle, WorkerSeat, start_worker, worker_seats_of};
 use mio::Waker;
 use std::alloc::Global;
 use std::io::{Input, Read};
+use std::net::Net;
 use std::sync::{Arc, Wait};
 use std::thread;
 use std::thread::{JoinHandle, Scope, Threads};
 use std::time::Clock as SystemClock;
-use tt_connections::{Acceptor, Listeners, MachineClock, Sight, reading_of};
+use tt_connections::{Acceptor, Listener, Listeners, MachineClock, Sight, reading_of};
 use tt_epoch::{FolderStore, Store, next_epoch};
 use tt_host::descriptor_limit;
 use tt_publish::{Teller, Told, Watch};
 use tt_report::Pages;
 use tt_settings::Settings;
-use tt_stamp::Sequencer;
+use tt_stamp::{Seat, Sequencer};
 use tt_status::LogEvent;
 
 /// How much longer than its `wait` a round may last before that is logged, in nanoseconds: a second.
@@ -308,6 +309,11 @@ fn run_threads<'s, E, R: ServerHost>(
     ensures life { IfOk result (λ end. (life : ServerLife) × TellsOf settings.now end life) }
 {
     let (rt, server) = (context.rt, context.server);
+    let path = match settings.shared() {
+        Some(path) => Some(path.as_str()),
+        None => None,
+    };
+    let share = start_sharing(context, path)?;
     let Parts {
         acceptor,
         polling,
@@ -327,11 +333,6 @@ fn run_threads<'s, E, R: ServerHost>(
         names,
     } = polling;
     let polled = Polled { link, reach, table };
-    let path = match settings.shared() {
-        Some(path) => Some(path.as_str()),
-        None => None,
-    };
-    let share = start_sharing(context, path)?;
     let mut poller = poller_of(context, settings, polled, share);
     if !start_all(
         scope,
@@ -467,7 +468,7 @@ fn run_life<'n, R: ServerHost, S: Store>(
     let Some(ending) = Ending::shared(alloc, waker) else {
         return Err(ServerFault::Memory);
     };
-    pause_after_breaks(rt, alloc, &reporter, settings.state());
+    let broken_lives = pause_after_breaks(rt, alloc, &reporter, settings.state());
     let epoch = match next_epoch(store) {
         Ok(epoch) => epoch,
         Err(fault) => return Err(ServerFault::Epoch(fault)),
@@ -475,7 +476,14 @@ fn run_life<'n, R: ServerHost, S: Store>(
     let life = Life::of(settings, epoch);
     reporter.watch_for(life.pauses.wait.saturating_add(SLOW));
     let has_evidence = shows_evidence(settings);
-    let server = ServerState::new(life, listeners, reporter, has_evidence, ending);
+    let server = ServerState::new(
+        life,
+        listeners,
+        reporter,
+        has_evidence,
+        broken_lives,
+        ending,
+    );
     let context = ThreadContext {
         rt,
         alloc,
@@ -493,6 +501,35 @@ fn run_life<'n, R: ServerHost, S: Store>(
     ended
 }
 
+/// What the workers own, over seats of this sequencer, room for their threads, and the publications, none so far.
+fn posts_of<'a, R: Net + Wait>(
+    rt: &R,
+    alloc: Global,
+    settings: &Settings,
+    sequencer: &'a Sequencer,
+    seats: Vec<Seat>,
+) -> Result<(Posts<'a>, Joins, Teller), ServerFault>
+    requires seats { All (λ seat. seat.table ≡ sequencer.now) seats.items }
+    ensures nothing { IfOk result (λ made. made.2.items ≡ []) }
+    ensures ready { IfOk result (λ made. AreReady settings.now made.2.source made.0.watches.items made.1.most) }
+{
+    let workers = settings.config().workers();
+    let Some(worker_seats) = worker_seats_of(alloc, sequencer, seats) else {
+        return Err(ServerFault::Memory);
+    };
+    let sights = sights_of(rt, alloc, workers)?;
+    let Some(joins) = Joins::new(alloc, workers) else {
+        return Err(ServerFault::Memory);
+    };
+    let (teller, watches) = publications_of(rt, alloc, settings)?;
+    let posts = Posts {
+        worker_seats,
+        watches,
+        sights,
+    };
+    Ok((posts, joins, teller))
+}
+
 /// Makes the other parts of a machine that listens and holds its folder, and runs it.
 fn run_behind<'n, 'e, R: ServerHost>(
     rt: &'n R,
@@ -506,30 +543,102 @@ fn run_behind<'n, 'e, R: ServerHost>(
 {
     watch_all(&acceptor, start.listeners)?;
     let settings = start.settings;
-    let workers = settings.config().workers();
-    let Ok((sequencer, seats)) = Sequencer::open(alloc, workers) else {
+    let Ok((sequencer, seats)) = Sequencer::open(alloc, settings.config().workers()) else {
         return Err(ServerFault::Memory);
     };
-    let Some(worker_seats) = worker_seats_of(alloc, &sequencer, seats) else {
-        return Err(ServerFault::Memory);
-    };
-    let sights = sights_of(rt, alloc, workers)?;
-    let Some(joins) = Joins::new(alloc, workers) else {
-        return Err(ServerFault::Memory);
-    };
-    let (mut teller, watches) = publications_of(rt, alloc, settings)?;
+    let (posts, joins, mut teller) = posts_of(rt, alloc, settings, &sequencer, seats)?;
     let parts = Parts {
         acceptor,
         polling,
-        posts: Posts {
-            worker_seats,
-            watches,
-            sights,
-        },
+        posts,
         joins,
     };
     let ended = run_life(rt, alloc, start, parts, store, &mut teller);
     teller.close(rt);
+    ended
+}
+
+/// What a machine has opened before it holds its folder.
+#[derive(Drop)]
+struct Opened<'n, R> {
+    front: Listener,
+    acceptor: Acceptor,
+    waker: Waker,
+    pages: Option<Pages>,
+    polling: Polling<'n, R>,
+    link_waker: Waker,
+}
+
+/// Opens what a machine has before it holds its folder, in this order.
+fn open_all<'n, R: ServerHost>(
+    rt: &'n R,
+    alloc: Global,
+    settings: &'n Settings,
+) -> Result<Opened<'n, R>, ServerFault> {
+    let front = front_of(rt, settings)?;
+    let (acceptor, waker) = acceptor_of(rt, alloc)?;
+    let pages = pages_of(rt, settings)?;
+    let (polling, link_waker) = link_to(rt, alloc, settings)?;
+    Ok(Opened {
+        front,
+        acceptor,
+        waker,
+        pages,
+        polling,
+        link_waker,
+    })
+}
+
+/// Where all clients come in: at this listener, and at the Unix socket if the settings name one.
+fn listeners_of<R: ServerHost>(
+    rt: &R,
+    alloc: Global,
+    settings: &Settings,
+    front: Listener,
+    waker: Waker,
+    limit: Option<u64>,
+) -> Result<Listeners, ServerFault> {
+    let workers = settings.config().workers();
+    let side_workers = side_workers_of(workers, settings.socket().is_some());
+    let room = room_of(limit, workers);
+    let front = backlog_of(rt, alloc, front, workers - side_workers, room)?;
+    let side = side_of(rt, alloc, settings, side_workers, room)?;
+    Ok(Listeners::new(front, side, waker))
+}
+
+/// Runs a machine that has opened these and holds its folder, and removes its Unix socket in the end.
+fn serve_opened<'n, 'e, R: ServerHost>(
+    rt: &'n R,
+    alloc: Global,
+    settings: &'n Settings,
+    until_eof: bool,
+    opened: Opened<'n, R>,
+    store: &mut FolderStore<'e, R>,
+) -> Result<LifeEnd, ServerFault>
+    ensures life { IfOk result (λ end. (life : ServerLife) × TellsOf settings.now end life) }
+{
+    let Opened {
+        front,
+        acceptor,
+        waker,
+        pages,
+        polling,
+        link_waker,
+    } = opened;
+    let limit = descriptor_limit(rt);
+    let listeners = listeners_of(rt, alloc, settings, front, waker, limit)?;
+    let start = Start {
+        settings,
+        listeners: &listeners,
+        waker: link_waker,
+        until_eof,
+        pages,
+        limit,
+    };
+    let ended = run_behind(rt, alloc, start, acceptor, polling, store);
+    if let (Some(side), Some(path)) = (&listeners.side, settings.socket()) {
+        side.listener.remove(rt, path.as_str());
+    }
     ended
 }
 
@@ -571,33 +680,12 @@ pub fn serve<R: ServerHost>(
     ensures life { IfOk result (λ end. (life : ServerLife) × TellsOf settings.now end life) }
 {
     let alloc = rt.alloc();
-    let front = front_of(rt, settings)?;
-    let (acceptor, waker) = acceptor_of(rt, alloc)?;
-    let pages = pages_of(rt, settings)?;
-    let (polling, link_waker) = link_to(rt, alloc, settings)?;
+    let opened = open_all(rt, alloc, settings)?;
     let mut store = match FolderStore::open(rt, alloc, settings.state()) {
         Ok(store) => store,
         Err(fault) => return Err(ServerFault::Epoch(fault)),
     };
-    let workers = settings.config().workers();
-    let side_workers = side_workers_of(workers, settings.socket().is_some());
-    let limit = descriptor_limit(rt);
-    let room = room_of(limit, workers);
-    let front = backlog_of(rt, alloc, front, workers - side_workers, room)?;
-    let side = side_of(rt, alloc, settings, side_workers, room)?;
-    let listeners = Listeners::new(front, side, waker);
-    let start = Start {
-        settings,
-        listeners: &listeners,
-        waker: link_waker,
-        until_eof,
-        pages,
-        limit,
-    };
-    let ended = run_behind(rt, alloc, start, acceptor, polling, &mut store);
-    if let (Some(side), Some(path)) = (&listeners.side, settings.socket()) {
-        side.listener.remove(rt, path.as_str());
-    }
+    let ended = serve_opened(rt, alloc, settings, until_eof, opened, &mut store);
     // The folder stays locked until here.
     drop(store);
     ended

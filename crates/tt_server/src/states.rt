@@ -96,6 +96,8 @@ pub(crate) struct ServerState<'a> {
     pub(crate) reporter: Reporter,
     /// Whether the settings name a file or pages for the evidence.
     pub(crate) has_evidence: bool,
+    /// How many lives before this one ended by a break, as recorded at the start.
+    pub(crate) broken_lives: u64,
     /// Makes the pauses of the daemon, and ends them at the end of the machine.
     pub(crate) ending: Arc<Ending, Global>,
 }
@@ -137,9 +139,11 @@ impl<'a> ServerState<'a> {
         listeners: &'a Listeners,
         reporter: Reporter,
         has_evidence: bool,
+        broken_lives: u64,
         ending: Arc<Ending, Global>,
     ) -> ServerState<'a>
         ensures life { result.life ≡ life }
+        ensures broken_lives { result.broken_lives ≡ broken_lives }
     {
         ServerState {
             life,
@@ -147,6 +151,7 @@ impl<'a> ServerState<'a> {
             counts: Counts::new(),
             reporter,
             has_evidence,
+            broken_lives,
             ending,
         }
     }

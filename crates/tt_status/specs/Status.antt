@@ -183,6 +183,7 @@ abbrev pub break_metrics : Status → List Metric
 break_metrics s =
     single (codes "truetime_strangers_total") (codes "Packets from addresses that are no source's.") Counter (Whole s.strangers) ∷
     single (codes "truetime_assumption_breaks_total") (codes "Signs that an assumption of the service is broken.") Counter (Whole s.breaks) ∷
+    single (codes "truetime_broken_lives_total") (codes "Lives before this one that ended since an assumption was broken.") Counter (Whole s.broken_lives) ∷
     single (codes "truetime_slept_seconds_total") (codes "For how long the host has slept in this life.") Counter (Nanos (Some s.slept)) ∷
     single (codes "truetime_sleep_unseen") (codes "1 as long as it would not be seen that the host sleeps, else 0.") Gauge (Flag s.sleep_unseen) ∷
     []

@@ -145,8 +145,10 @@ pub struct Status {
     pub stale_rounds: u64,
     /// How many packets came from addresses that are no source's.
     pub strangers: u64,
-    /// How many signs of a broken assumption there were.
+    /// How many signs of a broken assumption there were in this life.
     pub breaks: u64,
+    /// How many lives before this one ended by a broken assumption, as recorded at the start.
+    pub broken_lives: u64,
     /// For how long the host has slept in this life, in nanoseconds.
     pub slept: u64,
     /// Whether it would not be seen that the host sleeps: the last look failed.
@@ -632,6 +634,12 @@ fn push_breaks(text: &mut String, status: &Status) -> Result<(), AllocError>
                 help: "Signs that an assumption of the service is broken.",
                 kind: Kind::Counter,
                 value: Value::Whole(status.breaks),
+            },
+            Row {
+                name: "truetime_broken_lives_total",
+                help: "Lives before this one that ended since an assumption was broken.",
+                kind: Kind::Counter,
+                value: Value::Whole(status.broken_lives),
             },
             Row {
                 name: "truetime_slept_seconds_total",

@@ -170,6 +170,7 @@ status_of machine t shown notices unsent seals strangers work now = record {
   reading_widths = notices.widths;
   strangers = strangers;
   breaks = notices.breaks;
+  broken_lives = machine.broken_lives;
   slept = notices.slept;
   sleep_unseen = notices.sleep_unseen;
   sharing = machine.sharing;

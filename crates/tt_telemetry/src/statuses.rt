@@ -44,6 +44,8 @@ pub struct Machine {
     pub known: u64,
     /// Whether a shared file is written.
     pub sharing: bool,
+    /// How many lives before this one ended by a break.
+    pub broken_lives: u64,
 }
 
 /// Whether this number is among these.
@@ -320,6 +322,7 @@ pub fn status_of(machine: &Machine, account: &Account<'_>, work: &Work, now: u64
         reading_widths: notices.widths,
         strangers: account.strangers,
         breaks: notices.breaks,
+        broken_lives: machine.broken_lives,
         slept: notices.slept,
         sleep_unseen: notices.sleep_unseen,
         sharing: machine.sharing,
