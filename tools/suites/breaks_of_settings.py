@@ -31,6 +31,33 @@ def warned(trial):
         yield f"{world.number('assumption_breaks_total')} breaks are counted, and there were 2"
 
 
+@suite.case()
+def stays_down(trial):
+    """By `on_break = "stay"` a break ends the machine with status 2, after which a unit starts nothing; somebody who starts it has a life more."""
+    path = os.path.join(trial.room, "vmclock0")
+    write(path, page(1))
+    world = World(trial, vmclock=path, on_break="stay")
+    since = disrupt(path, 2)
+    ended, status = world.end(since)
+    if not ended or status != 2:
+        yield f"it ends with status {status}"
+    if not (line := world.line("guest_disrupted", since)) or line["level"] != "error":
+        yield f"it was told by {line}"
+    time.sleep(1)
+    if wrong := world.users.wrong():
+        yield f"{len(wrong)} wrong readings"
+    if late := [got for got in world.users.readings if got.before > ended]:
+        yield f"{len(late)} readings behind its end"
+    if not (text := read(world.node.path("state/break"))).endswith(b" 1\n"):
+        yield f"state/break has {text!r}"
+    world.node.running.stdin.close()
+    world.node.run()
+    world.node.wait_until_ready()
+    yield from world.goes_on_rightly()
+    if (told := world.number("broken_lives_total")) != 1:
+        yield f"its status tells of {told} lives that ended so"
+
+
 class Asking(threading.Thread):
     """A session that asks for the time as often as it can, until it has no reading: when it asked, and what it was told in the end."""
 

@@ -626,7 +626,7 @@ REFUSED = [
     ({"http": '"127.0.0.1:0"', "log": '"Json"'}, 1804, 'http: "127.0.0.1:0": an address of this host, as 127.0.0.1:7001, with a port from 1'),
     ({"listen": '"10.0.0.1:1"', "http": '"127.0.0.1:0"'}, 1805, 'listen: "10.0.0.1:1": an address of this host, as 127.0.0.1:7001'),
     ({"log": '"Json"'}, 1804, 'log: "Json": "text" or "json"'),
-    ({"on_break": '"End"'}, 1804, 'on_break: "End": "end" or "warn"'),
+    ({"on_break": '"End"'}, 1804, 'on_break: "End": "end", "warn" or "stay"'),
     ({"max_width": '"3601s"'}, 1804, 'max_width: "3601s" is above 3600s'),
     ({"max_width": "5"}, 1804, "max_width: 5: a whole number and ns, us, ms or s, in quotes"),
     ({"state": '""'}, 1804, 'state: "": a path'),

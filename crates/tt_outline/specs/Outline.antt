@@ -8,7 +8,7 @@ use Rattle.tt_daemon.specs.Config.{Configuration}
 use Rattle.tt_text.specs.Line.{line_of}
 use Rattle.tt_settings.specs.declared.plans.Pauses.{Pauses}
 use Rattle.tt_settings.specs.declared.forms.OnBreak.{OnBreak}
-use Rattle.tt_settings.specs.declared.forms.OnBreak.TheVariants.{End, Warn}
+use Rattle.tt_settings.specs.declared.forms.OnBreak.TheVariants.{End, Warn, Stay}
 use Rattle.tt_settings.specs.Settings.{Meaning}
 use Rattle.tt_settings.specs.Master.{Master}
 use Rattle.tt_server.specs.Name.{has_names}
@@ -117,6 +117,7 @@ stampers_text None = []
 abbrev pub break_word : OnBreak → List ℕ
 break_word End = codes "end"
 break_word Warn = codes "warn"
+break_word Stay = codes "stay"
 
 -- the widest reading, where there is a limit
 abbrev pub width_text : Option ℕ → List ℕ

@@ -253,6 +253,7 @@ fn break_word(on_break: OnBreak) -> &'static str
     match on_break {
         OnBreak::End => "end",
         OnBreak::Warn => "warn",
+        OnBreak::Stay => "stay",
     }
 }
 

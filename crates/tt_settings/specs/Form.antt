@@ -1,5 +1,5 @@
--- The settings that are one of two words.
-use Rattle.std.specs.Prelude.{ℕ, nat_eq, if◌then◌else◌, List, Option, Some, None, option_map, ok_or, Result, Ok}
+-- The settings that are one of a few words.
+use Rattle.std.specs.Prelude.{ℕ, nat_eq, if◌then◌else◌, List, codes, Option, Some, None, option_map, ok_or, Result, Ok}
 use Rattle.std.specs.Cmp.Lexicographic.{pointwise}
 use Rattle.toml.specs.Data.{Data, Members, get_member, as_str}
 use Rattle.tt_status.specs.declared.lines.LogFormat.{LogFormat}
@@ -8,7 +8,7 @@ use Rattle.tt_settings.specs.declared.forms.Choice.{Choice}
 use Rattle.tt_settings.specs.declared.forms.Choice.TheVariants.{First, Second}
 use Rattle.tt_settings.specs.declared.forms.OnBreak.{OnBreak as Act}
 use Rattle.tt_settings.specs.declared.forms.Conduct.{Conduct}
-use Rattle.tt_settings.specs.declared.forms.OnBreak.TheVariants.{End, Warn}
+use Rattle.tt_settings.specs.declared.forms.OnBreak.TheVariants.{End, Warn, Stay}
 use Rattle.tt_settings.specs.declared.keys.Key.{Key}
 use Rattle.tt_settings.specs.declared.keys.Key.TheVariants.{Log, OnBreak, MaxWidth}
 use Rattle.tt_settings.specs.declared.keys.ValueKind.{ValueKind}
@@ -52,16 +52,23 @@ log_at t = do
   choice ← choice_at Log t
   Ok (log_format choice)
 
--- what each word says that a machine does
-abbrev pub act_of : Choice → Act
-act_of First = End
-act_of Second = Warn
+-- what each word has a machine do
+abbrev pub act_of : List ℕ → Option Act
+act_of text =
+    if pointwise nat_eq text (codes "end") then Some End
+    else if pointwise nat_eq text (codes "warn") then Some Warn
+    else if pointwise nat_eq text (codes "stay") then Some Stay
+    else None
+
+-- what a value has a machine do
+abbrev pub act_in : Data → Result Act SettingsFault
+act_in d = do
+  text ← typed_value OnBreak (as_str d)
+  ok_or (act_of text) (WrongValue OnBreak)
 
 -- what a machine does when it knows that an assumption is broken, which is to end itself where the key is absent
 abbrev pub on_break_at : Members → Result Act SettingsFault
-on_break_at t = do
-  choice ← choice_at OnBreak t
-  Ok (act_of choice)
+on_break_at t = value_or End act_in (get_member (text_of OnBreak) t)
 
 -- how a machine writes its log, and what it does when it is not sure enough of the time
 unfoldable pub conduct_in : Members → Result Conduct SettingsFault

@@ -1,9 +1,9 @@
-//! The settings that are one of two words.
+//! The settings that are one of a few words.
 
 ghost use Rattle.std.specs.Prelude.{◌≡◌};
 ghost use Rattle.toml.specs.View.{view, table_view};
 ghost use Rattle.tt_settings.specs.Key.{kind_of};
-ghost use Rattle.tt_settings.specs.Form.{choice_at, choice_in, choice_of, conduct_in, log_at, log_format, log_format_of, on_break_at};
+ghost use Rattle.tt_settings.specs.Form.{act_in, act_of, choice_at, choice_in, choice_of, conduct_in, log_at, log_format, log_format_of, on_break_at};
 
 use crate::faults::SettingsFault;
 use crate::keys::{Key, ValueKind};
@@ -18,6 +18,8 @@ pub enum OnBreak {
     End,
     /// `warn`: it says so, and goes on.
     Warn,
+    /// `stay`: it says so, ends itself, and stays down until somebody starts it.
+    Stay,
 }
 
 /// How a machine writes its log, and what it does when it is not sure enough of the time.
@@ -106,13 +108,38 @@ fn log_at(table: &Table) -> Result<LogFormat, SettingsFault>
     Ok(log_format(choice))
 }
 
+/// What a text has a machine do when an assumption is broken. `None` for any other text.
+fn act_of(text: &str) -> Option<OnBreak>
+    ensures { result ≡ act_of text.now }
+{
+    if text == "end" {
+        Some(OnBreak::End)
+    } else if text == "warn" {
+        Some(OnBreak::Warn)
+    } else if text == "stay" {
+        Some(OnBreak::Stay)
+    } else {
+        None
+    }
+}
+
+/// What a value has a machine do when an assumption is broken.
+fn act_in(value: &Value) -> Result<OnBreak, SettingsFault>
+    ensures { result ≡ act_in (view value.now) }
+{
+    match act_of(text_in(Key::OnBreak, value)?) {
+        Some(act) => Ok(act),
+        None => Err(SettingsFault::WrongValue(Key::OnBreak)),
+    }
+}
+
 /// What a machine does when an assumption is broken: it ends itself if the key is absent.
 fn on_break_at(table: &Table) -> Result<OnBreak, SettingsFault>
     ensures { result ≡ on_break_at (table_view table.now) }
 {
-    match choice_at(table, Key::OnBreak)? {
-        Choice::First => Ok(OnBreak::End),
-        Choice::Second => Ok(OnBreak::Warn),
+    match found_at(table, Key::OnBreak) {
+        Some(value) => act_in(value),
+        None => Ok(OnBreak::End),
     }
 }
 

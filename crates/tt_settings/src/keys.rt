@@ -136,6 +136,8 @@ pub(crate) enum ValueKind {
     KeyNumbers,
     /// One of two words.
     Form(Words),
+    /// One of the words of [`OnBreak`](crate::OnBreak).
+    Act,
     /// A path.
     Path,
 }
@@ -202,7 +204,7 @@ impl Key {
             Key::Listen => plain("listen", ValueKind::Address),
             Key::Http => plain("http", ValueKind::Address),
             Key::Log => form("log", "text", "json"),
-            Key::OnBreak => form("on_break", "end", "warn"),
+            Key::OnBreak => plain("on_break", ValueKind::Act),
             Key::MaxWidth => duration("max_width", 0, HOUR),
             Key::Socket => plain("socket", ValueKind::Path),
             Key::State => plain("state", ValueKind::Path),

@@ -149,6 +149,7 @@ pub(crate) fn push_wanted(words: &mut String, kind: &ValueKind) -> Result<(), Al
         ValueKind::Address => words.push_str("an address of this host, as 127.0.0.1:7001"),
         ValueKind::Addresses => write!(words, "from 1 to {MAX_SOURCES} addresses of this host"),
         ValueKind::Form(form) => write!(words, "\"{}\" or \"{}\"", form.first(), form.second()),
+        ValueKind::Act => words.push_str("\"end\", \"warn\" or \"stay\""),
         ValueKind::Path => words.push_str("a path"),
     }
 }

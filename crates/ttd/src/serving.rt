@@ -10,7 +10,7 @@ use std::io::Eprint;
 use std::str;
 use tt_epoch::EpochFault;
 use tt_server::{ServerFault, ServerHost, serve};
-use tt_settings::{FilePath, Refusal, Settings, SettingsFault};
+use tt_settings::{FilePath, OnBreak, Refusal, Settings, SettingsFault};
 use tt_stream::ByteWriter;
 use ttd_masters::{StartFault, bytes_of};
 use ttd_words::Status;
@@ -141,9 +141,17 @@ fn say_no_key<H: Eprint>(rt: &H, settings: &Settings, number: u32) {
     }
 }
 
+/// How the program ends after a life that knew that an assumption is broken: the units start it again, unless it is to stay down.
+fn status_of(on_break: OnBreak) -> Status {
+    match on_break {
+        OnBreak::Stay => Status::Bad,
+        _ => Status::Broken,
+    }
+}
+
 /// Runs the machine of a configuration until it is ended. With `check` it only writes what the machine would do and what a
-/// start would find. Where the
-/// machine ends because it knows that an assumption is broken, the program ends with status 3.
+/// start would find. Where the machine ends because it knows that an assumption is broken, the program ends with status 3, or with 2 where
+/// it is to stay down.
 ///
 /// Refuses with 1604 `ReadFailed` where the file is not a regular one or can't be read, with 1603 `BadFile` where it is
 /// longer than 1 MiB or is not UTF-8, with 1801 to 1806, 1810, 1817, 1818, 1825 or 1826 where the configuration is refused, with
@@ -161,7 +169,7 @@ pub(crate) fn run_server<H: ServerHost, O: ByteWriter>(
         return match serve(rt, &settings, until_eof) {
             Ok(end) => {
                 if end.broken {
-                    Err(Stop::Told(Status::Broken))
+                    Err(Stop::Told(status_of(settings.on_break())))
                 } else {
                     Ok(())
                 }

@@ -14,7 +14,7 @@ pub enum Status {
     /// Out of memory (`refused 1`): 1.
     Memory,
     /// The arguments, the input or a configuration were rejected, or a machine refused a line, and the refusal was
-    /// written: 2.
+    /// written; or a life of `serve` ended as the next status says, and is to stay down: 2.
     Bad,
     /// A report was written of something wrong: a run that does not keep the assumptions, a wrong reading of `live`, or
     /// a history that is not consistent; or a life of `serve` ended itself, since one of its assumptions is broken: 3.

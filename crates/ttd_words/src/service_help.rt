@@ -67,8 +67,8 @@ standard input ends. With --check it prints what it would do and what it finds, 
 addresses of names among it, refuses what a start would refuse of these files, and ends. It changes
 nothing, and the machine may be running.
 
-When it notices that one of its assumptions is broken, it says so and ends itself; the status is 3.
-With `on_break = \"warn\"` in the configuration it only says so.
+When it notices that one of its assumptions is broken, it says so and ends itself; the status is 3,
+or 2 with `on_break = \"stay\"` in the configuration. With `\"warn\"` it only says so.
 
 Example:
   ttd serve node.toml
