@@ -41,6 +41,9 @@ level_of (SourceResolved source address) = codes "info"
 level_of (KeysRead keys) = codes "info"
 level_of MasterAnswers = codes "info"
 level_of ClockStepped = codes "error"
+level_of (AssumptionBroken clock lower upper last_lower last_upper) = codes "error"
+level_of (HostSlept slept) = codes "error"
+level_of GuestDisrupted = codes "error"
 level_of _ = codes "warn"
 
 -- how an event is called

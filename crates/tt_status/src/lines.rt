@@ -228,7 +228,10 @@ impl LogEvent {
             | LogEvent::SourceResolved { .. }
             | LogEvent::KeysRead { .. }
             | LogEvent::MasterAnswers => "info",
-            LogEvent::ClockStepped => "error",
+            LogEvent::ClockStepped
+            | LogEvent::AssumptionBroken { .. }
+            | LogEvent::HostSlept { .. }
+            | LogEvent::GuestDisrupted => "error",
             _ => "warn",
         }
     }
