@@ -3,6 +3,7 @@ import contextlib
 import os
 import pty
 import re
+import signal
 import socket
 import subprocess
 import time
@@ -113,6 +114,29 @@ def top_of_one_that_falls_silent(trial):
         " silent\n") == 1 and seen, 20)
     trial.check("top", ran and ran.said.splitlines()[4].startswith("    2 ") and ran.said.splitlines()[4].endswith(" silent"),
                 f"no source is silent, or another one: {ran and ran.said}")
+
+
+@suite.case()
+def top_of_one_that_stands(trial):
+    """A machine that is stopped: its last status is shown behind a line with its age, which a machine that runs has not."""
+    node = trial.node(trial.scripts(honest), poll="400ms", wait="200ms")
+    node.run(cwd=node.folder)
+    node.wait_until_ready()
+
+    def shown():
+        return run([trial.program, "top", node.path("node.toml"), "--once"], env=PLAIN, cwd=node.folder).said.splitlines()
+
+    first = eventually(shown, 20)
+    trial.check("top", first and not first[0].startswith("!"), f"it is told to be old: {first}")
+    node.running.send_signal(signal.SIGSTOP)
+    stopped = time.monotonic()
+    time.sleep(3)
+    old = shown()
+    age = re.fullmatch(r"! the status is (\d+) s old", old[0])
+    node.running.send_signal(signal.SIGCONT)
+    trial.check("top", age, f"its age is not told: {old[0]}")
+    trial.between("top", 3, int(age[1]) if age else 0, time.monotonic() - stopped + 1)
+    trial.check("top", old[1:] and old[1].split()[0] == first[0].split()[0], f"another picture: {old[1:2]}")
 
 
 @suite.case()

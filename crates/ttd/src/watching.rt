@@ -4,9 +4,10 @@ use crate::faults::ServiceFault;
 use crate::services::Stop;
 use crate::serving::settings_of;
 use std::alloc::{AllocError, AllocFailed, Global};
-use std::fs::{File, Files};
+use std::fs::{self, File, Files};
 use std::io::{self, Eprint, IsTerminal, Write};
 use std::net::{Ipv4Addr, Net, SocketAddr, TcpStream};
+use std::os::unix::fs::MetadataExt;
 use std::rt::Env;
 use std::time::{Clock as SystemClock, Duration};
 use std::{env, thread};
@@ -24,6 +25,9 @@ const PAUSE: u64 = 500;
 
 /// How long it waits for a connection, and then for the whole of an answer, in seconds.
 const LINK_WAIT: u64 = 5;
+
+/// A second, in nanoseconds.
+const SECOND: u64 = 1_000_000_000;
 
 /// The most bytes of an answer: 1 MiB.
 const MOST_ANSWER: usize = 1_048_576;
@@ -248,6 +252,7 @@ fn draw_once<H: Host>(
     if svg {
         push_svg(rt.alloc(), &mut text, &view, form, &[])?;
     } else {
+        push_old(rt, &mut text, origin, form)?;
         push_view(&mut text, &view, form, &[])?;
     }
     Ok(text)
@@ -268,8 +273,39 @@ fn draw_next<H: Host>(
         widths.push(width)?;
     }
     let mut text = String::from_str(rt.alloc(), CLEAR)?;
+    push_old(rt, &mut text, origin, form)?;
     push_view(&mut text, &view, form, widths.as_slice())?;
     Ok(text)
+}
+
+/// How long ago the file with this path was written, in nanoseconds: 0 where its time is ahead. None where that can't be seen.
+fn age_of<H: Files<File = File> + SystemClock>(rt: &H, path: &str) -> Option<u64> {
+    let metadata = fs::metadata(rt, path).ok()?;
+    let seconds = u64::try_from(metadata.mtime()).ok()?;
+    let nanos = u64::try_from(metadata.mtime_nsec()).ok()?;
+    let written = seconds.saturating_mul(SECOND).saturating_add(nanos);
+    let now = u64::try_from(rt.since_1970().ok()?.as_nanos()).ok()?;
+    Some(now.saturating_sub(written))
+}
+
+/// Adds a line where the status stands in a file that was written more than two rounds and a second ago: then the machine
+/// stands still, or has ended, and what follows is of the past.
+fn push_old<H: Files<File = File> + SystemClock>(
+    rt: &H,
+    text: &mut String,
+    origin: &Origin,
+    form: &Form,
+) -> Result<(), AllocError> {
+    let Origin::Files { status, .. } = origin else {
+        return Ok(());
+    };
+    let rounds = form.silent_after / 3 * 2;
+    match age_of(rt, status.as_str()) {
+        Some(age) if age > rounds.max(SECOND) => {
+            write!(text, "! the status is {} s old\n", age / SECOND)
+        }
+        _ => Ok(()),
+    }
 }
 
 /// What the texts of a machine show now.
