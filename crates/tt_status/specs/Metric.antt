@@ -46,7 +46,7 @@ outcome_word Silent = codes "silent"
 
 -- the version of the program
 abbrev pub version : List ℕ
-version = codes "0.2 (rattle-kit-13)"
+version = codes "0.4.0 (rattle-kit-13)"
 
 -- what stands behind the name of a metric in a sample of it
 abbrev pub suffix_of : Subject → List ℕ

@@ -13,7 +13,7 @@ use tt_seal::SealFault;
 use tt_source::SourceFault;
 
 /// The version of the program.
-pub const VERSION: &str = "0.2 (rattle-kit-13)";
+pub const VERSION: &str = "0.4.0 (rattle-kit-13)";
 
 /// What numbers a metric has.
 #[derive(Clone, Copy)]

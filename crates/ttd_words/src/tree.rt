@@ -14,9 +14,7 @@ use crate::help::{
 };
 use clap::Command;
 use std::alloc::{AllocError, Global};
-
-/// The version of the program.
-const VERSION: &str = "0.2 (rattle-kit-13)";
+use tt_status::VERSION;
 
 /// The program with no command yet.
 #[tactic(auto, unfolding(crate::specs::CommandLine::bare_app))]
