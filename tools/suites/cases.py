@@ -1,7 +1,28 @@
 """Gives the built program the cases of tests/, and compares what it answers with what was worked out by hand.
 
-tests/README.md says what a case has. Then each twin of each reading of these scripts, and of those in examples/, is made a
-script of its own, and `run` has to say of it that nothing is refused, no reading is wrong and the premise is kept.
+Then each twin of each reading of these scripts, and of those in examples/, is made a script of its own, and `run` has to say of it that
+nothing is refused, no reading is wrong and the premise is kept.
+
+`tests/cases/NAME/` is a run: `script.toml`, and beside it answers. The status is 2 after `refused N`, 3 if the report ends with `premise
+broken`, otherwise 0.
+
+- `report`: of `ttd run`
+- `trace`: of `ttd trace`, without its last line
+- `twin-K-low`, `twin-K-high`: of `ttd twin --event K` on that side
+- `picture`: parts of the answer of `ttd picture`, an empty line between two
+
+`tests/commands/FILE.toml` has a table `[[case]]` for each command line:
+
+- `what` it shows, and the `words`
+- the `input` (or `input_hex`; with `times` that many times over), or the text of a `file`, which the word `FILE` names
+- the `answer`, the `status` if it is not 0, and what standard error `says`
+
+A `[[table]]` there has short inputs. They are files if `FILE` is one of the words.
+
+- Each of its `rows` is a text between `head` and `tail`, a count of how often `repeat` stands there, or a list of further `words`. After it
+  stands the number N of `refused N` (status 2; 4 for 2211), or 0 for an answer.
+- Each of its `orders` is a first line and the keys after it; `lines` has of each key the right line and wrong ones. A text without a key is
+  refused by 1302, one that ends with a wrong line by 1303, and one with all keys by `whole`, or not.
 """
 import difflib
 import glob
