@@ -1,17 +1,17 @@
-"""The commands: usage, options and help of each, as clap is given them."""
+"""The commands: usage, options and help of each, as clap is given them, and what scripts may rely on beside that."""
 import re
 
-from pages.source import STRING, Missing, function, sources, unescaped
+from pages.source import STRING, Missing, function, sources, unescaped, words
 
 NAME = "commands.md"
 HEAD = """\
 # Commands of `ttd`
 
-This page, made by `tools/reference`, lists the commands with their options and help; `ttd COMMAND --help` and `man ttd` have the same.
+This page, made by `tools/reference`, lists the commands with their options and help, as `ttd COMMAND --help` and `man ttd` have them, and with what scripts may rely on \
+beside that.
 
 Options follow the command, in any order, each once; `..` marks what may be given again. A value is the next word, or follows `=`. \
-Behind `--` no word is an option. [FORMATS.md](../FORMATS.md), section 3, has what scripts may rely on beside this, and \
-[refusals](refusals.md) what each number means.
+Behind `--` no word is an option. [FORMATS.md](../FORMATS.md), section 3, has what holds for all commands, and [refusals](refusals.md) what each number means.
 
 """
 CALL = re.compile(r"\b(\w+_command|\w+_option|flag|place|line_words)\(", re.DOTALL)
@@ -88,16 +88,19 @@ class Commands:
 
 def page():
     """The text of the page."""
-    commands, parts = Commands(), []
+    commands, parts, notes = Commands(), [], words("commands")
     for kind, *rest in commands.walk("ttd_command"):
         if kind == "command":
             parts.append([rest[0], rest[1], []])
         else:
             parts[-1][2].append(rest)
+    if strange := notes.keys() - {name for (name, _), _, _ in parts}:
+        raise Missing(f"there is no command {strange.pop()}")
     text = HEAD + f"## All commands\n\n    ttd COMMAND ..\n    ttd help [COMMAND]\n    ttd --version\n\n```text\n{unescaped(commands.helps['ABOUT_ANSWERS'])}\n```\n"
-    for (name, about), words, options in parts:
+    for (name, about), told, options in parts:
         usage = " ".join(["ttd", name, *(shown for shown, _ in options)])
         text += f"\n## `ttd {name}`\n\n{about}.\n\n    {usage}\n\n"
         text += "".join(f"- `{shown.strip('[]')}`: {meaning}\n" for shown, meaning in options) + ("\n" if options else "")
-        text += f"```text\n{unescaped(words)}\n```\n"
+        text += f"```text\n{unescaped(told)}\n```\n"
+        text += f"\n{notes[name].strip()}\n" if name in notes else ""
     return text

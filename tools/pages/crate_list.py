@@ -1,15 +1,14 @@
-"""The crates, in the order of crates.txt: what each is, and what it stands on."""
+"""The crates, by subject and in the order of crates.txt: what each is."""
 import re
 
-from pages.source import Missing, crates, read, sources
+from pages.source import Missing, crates, read, sources, words
 
 NAME = "crates.md"
 HEAD = """\
 # The crates
 
-This page, made by `tools/reference`, lists the crates in the order of `crates.txt`, lowest first, each with the first sentence of its \
-own page. [ARCHITECTURE.md](../ARCHITECTURE.md) has them by subject.
-
+This page, made by `tools/reference`, lists the crates by subject, lowest first as in `crates.txt`, each with the first sentence of its \
+own page. [ARCHITECTURE.md](../ARCHITECTURE.md) has the paths through them.
 """
 
 
@@ -28,5 +27,10 @@ def first_sentence(crate):
 
 def page():
     """The text of the page."""
-    below = dict(re.findall(r"^(\w+)[^:\n]*:(.*)$", read("crates.txt"), re.MULTILINE))
-    return HEAD + "".join(f"- `{crate}`: {first_sentence(crate)}\n" for crate in crates() if crate in below)
+    there = set(re.findall(r"^(\w+)[^:\n]*:", read("crates.txt"), re.MULTILINE))
+    subjects = {subject: set(names.split()) for subject, names in words("crates").items()}
+    listed = [crate for names in subjects.values() for crate in names]
+    if strange := sorted(there ^ set(listed)) or [crate for crate in listed if listed.count(crate) > 1]:
+        raise Missing(f"{strange[0]} is no crate with one subject")
+    return HEAD + "".join(f"\n## {subject}\n\n" + "".join(f"- `{crate}`: {first_sentence(crate)}\n" for crate in crates() if crate in names)
+                          for subject, names in subjects.items())
