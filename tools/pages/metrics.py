@@ -1,4 +1,4 @@
-"""The metrics: name, type, labels and help of each, as the status of a machine and of a master have them."""
+"""The metrics: name, type, labels and help of each, as the status of a machine and of a master have them, and the pages of a machine."""
 import re
 
 from pages.refusals import Faults
@@ -8,13 +8,35 @@ NAME = "metrics.md"
 HEAD = """\
 # Metrics
 
-This page, made by `tools/reference`, lists the metrics in the status of a machine and of a master.
+This page, made by `tools/reference`, lists the metrics in the status of a machine and of a master, and the pages that a machine gives at `http`.
 
 The status is in Prometheus' text format (0.0.4). Times are in seconds. `NaN` stands for what is not known yet. \
 A counter never falls within a life of the machine. A histogram has samples by `_bucket` (with the label `le`), `_sum` and `_count`. \
 The label `number` is that of a [refusal](refusals.md), and `server` counts from 0 in the order of the master's servers. \
 [Alerts](alerts.md) says what to do when one is not as it should be.
 
+"""
+PAGES = """
+## The pages at `http`
+
+A machine answers one request of HTTP/1.0 or 1.1 a connection, from this host: GET, or HEAD for the head alone. Fields, and in a path what \
+follows `?`, are ignored. A head has at most 4,096 bytes and 64 fields. A connection is closed after two seconds, and the first of eight if \
+a ninth comes.
+
+- `/metrics`: 200 and the status, of the type `text/plain; version=0.0.4; charset=utf-8`; 503 before the first round has ended
+- `/evidence`: 200 and the evidence of the last publication; 404 before the first
+- `/health`: 200 and `ok`, or 503 and a line for each reason (below)
+- any other path gets 404, any other method 405 with `Allow: GET, HEAD`, what cannot become a request 400, and a longer head 431
+
+An answer has `Content-Length`, `Connection: close` and a `Content-Type`, which is `text/plain; charset=utf-8` except for `/metrics`. A line \
+of `/health` begins with
+
+- `801:` nothing is published
+- `1823:` `truetime_assumption_breaks_total` is above 0
+- `1824:` `truetime_width_seconds` is above `max_width`
+- `sources_stale:` `truetime_needed_answer_age_seconds` is above 3 (`poll` + `wait`), or NaN
+- `sharing_ended:` `truetime_sharing` is 0, and `shared` is set
+- `status_old:` the status is older than 10 (`poll` + `wait`) and a second
 """
 CALLS = {"push_histogram": "Histogram", "push_width": "Gauge"}
 METRIC = re.compile(rf'"(truetime_\w+)"(?=[,;][^"]*{STRING})')
@@ -113,4 +135,4 @@ def page():
     for name in metrics.words:
         if name not in names:
             raise Missing(f"words.toml has the metric {name}, which the program does not have")
-    return f"{HEAD}## Of a machine\n\n{table(heads, machine)}\n## Of a master\n\n{table(heads, master)}"
+    return f"{HEAD}## Of a machine\n\n{table(heads, machine)}\n## Of a master\n\n{table(heads, master)}{PAGES}"
