@@ -13,6 +13,7 @@
 #include "module.h"
 #endif
 
+#define VERSION 400 /* 0.4.0 */
 #define SECOND_NS UINT64_C(1000000000)
 /* After this a command is given up. */
 #define PATIENCE_NS (10 * SECOND_NS)
@@ -332,7 +333,7 @@ static int start_thread(void) {
 }
 
 int RedisModule_OnLoad(RedisModuleCtx *ctx, RedisModuleString **argv, int argc) {
-    if (RedisModule_Init(ctx, "truetime", 1, REDISMODULE_APIVER_1) != REDISMODULE_OK) return REDISMODULE_ERR;
+    if (RedisModule_Init(ctx, "truetime", VERSION, REDISMODULE_APIVER_1) != REDISMODULE_OK) return REDISMODULE_ERR;
     if (open_time(ctx, argv, argc) != REDISMODULE_OK) return REDISMODULE_ERR;
     if (RedisModule_CreateCommand(ctx, "tt.exec", exec_command, "write deny-oom", 0, 0, 0) != REDISMODULE_OK ||
         RedisModule_CreateCommand(ctx, "tt.multi", multi_command, "write deny-oom", 0, 0, 0) != REDISMODULE_OK ||

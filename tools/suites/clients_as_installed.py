@@ -23,7 +23,8 @@ from suites.clients import file_of, go_in, has_go, has_tokio, registry_for_cargo
 
 suite = Suite(__name__, at_once=4, quick=False, beside_s=13)
 CLIENTS = in_top("clients")
-VERSION = "0.3.0"
+VERSION = read_text("VERSION").strip()
+SERIES = VERSION.rpartition(".")[0]
 POM = "{http://maven.apache.org/POM/4.0.0}"
 # What examples name, and what stands in its place.
 FILE, PORT, OWNER = "/run/truetime/time", "5601", '"truetime"'
@@ -148,18 +149,13 @@ def note_examples(trial, examples, rest):
 
 @suite.case()
 def versions(trial):
-    """All name the same version, and no text names another one."""
-    named = {
-        "python/pyproject.toml": r'^version = "(.*)"$', "rust/Cargo.toml": r'^version = "(.*)"$', "java/pom.xml": r"^  <version>(.*)</version>$",
-        "python/truetime/__init__.py": r'^__version__ = "(.*)"$', "c/CMakeLists.txt": r"^project\(truetime VERSION (\S+) ", "c/truetime.pc": r"^Version: (.*)$",
-    }
-    for name, pattern in named.items():
-        trial.equal(name, re.findall(pattern, read_text(f"clients/{name}"), re.MULTILINE), [VERSION])
+    """Each file that has the version has that of VERSION, and no text names another one."""
+    trial.equal("tools/versions", run([in_top("tools/versions")]).answer, ("", 0))
     files = [name for name in files_below(CLIENTS) if not {"__pycache__", "build", "target", "Cargo.lock"} & set(name.split("/"))]
     for name in files:
-        others = re.findall(r"(?i)\bv(?:ersion)?[\W_]{0,4}(0\.\d+(?:\.\d+)*)\b", read_text(f"clients/{name}"))
-        trial.check(name, all(f"{other}.".startswith("0.3.") for other in others), f"it names the versions {others}")
-    trial.note(f"{VERSION} in {len(named)} files, no other one in {len(files)}; {len(trial.result.wrong)} wrong")
+        others = re.findall(r"(?i)\bv(?:ersion)?[\W_]{0,4}(\d+\.\d+\.\d+|0\.\d+)\b", read_text(f"clients/{name}"))
+        trial.check(name, all(f"{other}.".startswith(f"{SERIES}.") for other in others), f"it names the versions {others}")
+    trial.note(f"{VERSION}, and no other one in {len(files)} files; {len(trial.result.wrong)} wrong")
 
 
 # What no case waits for, and what the documents promise of languages: a file, a pattern, and what it has to find.
@@ -428,13 +424,13 @@ def java(trial):
 USER_OF_CMAKE = """
 cmake_minimum_required(VERSION 3.14)
 project(user LANGUAGES {languages})
-foreach(other 0.2 0.4 1)
+foreach(other {others})
   find_package(truetime ${{other}} CONFIG QUIET)
   if(truetime_FOUND)
     message(SEND_ERROR "found as version ${{other}}")
   endif()
 endforeach()
-find_package(truetime 0.3 REQUIRED)
+find_package(truetime {series} REQUIRED)
 set(CMAKE_CXX_STANDARD 17)
 foreach(example {examples})
   get_filename_component(name ${{example}} NAME)
@@ -489,7 +485,9 @@ def try_cmake(trial, clients, prefix, sources):
     """Each example by find_package, and one by add_subdirectory; the names of those that were made."""
     has_cpp = is_here(trial, "c++", "find_package in C++")
     sources = [source for source in sources if has_cpp or source.endswith(".c")]
-    texts = {"found": USER_OF_CMAKE.format(languages="C CXX" if has_cpp else "C", examples=" ".join(sources)),
+    major, minor = map(int, SERIES.split("."))
+    others = f"{major}.{minor + 1} {major + 1} {f'{major}.{minor - 1}' * bool(minor)}"
+    texts = {"found": USER_OF_CMAKE.format(series=SERIES, others=others, languages="C CXX" if has_cpp else "C", examples=" ".join(sources)),
              "below": SUBDIRECTORY.format(clients=clients, example=sources[0])}
     for name, text in texts.items():
         os.mkdir(f"{trial.room}/{name}")

@@ -28,7 +28,7 @@ from harness import postgres
 from harness.processes import Fault
 from harness.program import in_top, read, read_text, run, write
 from harness.suite import Suite, wrong_in
-from suites.clients_as_installed import UNTYPED, VERSION, files_below
+from suites.clients_as_installed import SERIES, UNTYPED, VERSION, files_below
 from suites.wiring_checks import SETTINGS, eventually
 
 suite = Suite(__name__, longest_s=120, again=1, quick=False, beside_s=120)
@@ -202,17 +202,16 @@ def try_module(trial, folder):
 
 
 def try_program(trial, made):
-    """The program of the package: its code and its data are those of the built one. The versions are its own and that of the clients."""
+    """The program of the package: its code and its data are those of the built one. The version is that of VERSION."""
     trial.equal("version", run([made, "--version"]).answer, trial.command("--version").answer)
     for section in (".text", ".rodata", ".data.rel.ro", ".data"):
         for name, path in ("made", made), ("built", trial.program):
             run(["objcopy", "-O", "binary", "--only-section", section, path, f"{trial.room}/{name}"])
         content = read(f"{trial.room}/made")
         trial.check(section, content == read(f"{trial.room}/built"), f"{len(content)} bytes, which are not those of the built program")
-    program = trial.command("--version").said.split()[1]
     for name, path in packages_in(f"{trial.shared}/now").items():
-        found = run(["dpkg-deb", "-f", path, "Version"]).said.partition("+git")[0]
-        trial.equal(f"version of {name}", found, program if name == "truetime" else VERSION)
+        found = re.split("[~+]git", run(["dpkg-deb", "-f", path, "Version"]).said)[0]
+        trial.equal(f"version of {name}", found, VERSION)
 
 
 @suite.case(programs=(*BUILDS, "man"))
@@ -440,7 +439,7 @@ int main(void) {
 CMAKE = """
 cmake_minimum_required(VERSION 3.14)
 project(user LANGUAGES C)
-find_package(truetime 0.3 REQUIRED CONFIG)
+find_package(truetime SERIES REQUIRED CONFIG)
 add_executable(user user.c)
 target_link_libraries(user PRIVATE truetime::truetime)
 """
@@ -502,7 +501,7 @@ def try_c(trial, host):
     """A program by pkg-config, and by CMake."""
     os.makedirs(f"{host.root}/c", exist_ok=True)
     write(f"{host.root}/c/user.c", C.encode())
-    write(f"{host.root}/c/CMakeLists.txt", CMAKE.encode())
+    write(f"{host.root}/c/CMakeLists.txt", CMAKE.replace("SERIES", SERIES).encode())
     succeeds(trial, host, "cmake", "cmake", "-S", "/c", "-B", "/c/out")
     succeeds(trial, host, "cmake --build", "cmake", "--build", "/c/out")
     succeeds(trial, host, "the program by CMake", "/c/out/user", wanted="right\n")

@@ -47,7 +47,7 @@ from .refusals import MAX_TIME_NS, CommitPending, Refusal, Refused, SessionLost
 from .sessions import Session
 from .stampers import AHEAD_NS, MAX_AHEAD_NS, MAX_GRID_NS, Stamp, Stamper
 
-__version__ = "0.3.0"
+__version__ = "0.4.0"
 
 logging.getLogger("truetime").addHandler(logging.NullHandler())
 
