@@ -11,6 +11,7 @@
   the units, and by a systemd of its own where one can be started (packages_of_units.py). There each file, folder and socket has its owner
   and its mode, and what is killed is started again.
 - Each line of the units, and each value of the examples, is one that was meant (packages_of_settings.py).
+- packaging/release makes the same of clones at other places, and refuses other versions and pages (packages_of_releases.py).
 """
 import contextlib
 import glob
