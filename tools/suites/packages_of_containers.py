@@ -1,16 +1,19 @@
 """What packaging/container has: the image, made of the package and run as process 1 in its root, and the manifests, which are read alone."""
 import gzip
+import hashlib
 import io
 import json
 import os
 import shutil
 import signal
+import stat
 import subprocess
 import tarfile
 import tomllib
 
 from harness.program import in_top, read, read_text, run, write
 from harness.trouble import honest
+from suites.clients_as_installed import VERSION
 from suites.packages import BUILDS, files_below, packages_in, suite
 from suites.packages_of_ends import as_first, by_a_calm_host, wrong_end_of_first
 from suites.wiring_checks import eventually
@@ -197,26 +200,22 @@ MOUNTS = """
 
 
 def made(trial):
-    """The folder with the root of an image, and the layout of it where umoci is here."""
+    """The folder with the root of an image and its layout."""
     ran = run([in_top(f"{FOLDER}/build"), packages_in(f"{trial.shared}/now")["truetime"], f"{trial.room}/made"], seconds=60)
-    has_umoci = bool(shutil.which("umoci"))
-    if not has_umoci:
-        trial.note("the image is left out, since umoci is not here: its root alone is tried")
-    trial.check("build", ran.status == (0 if has_umoci else 1), f"status {ran.status}\n{ran.said}{ran.error}")
-    return f"{trial.room}/made", ran.said.strip()
+    trial.check("build", ran.status == 0 and ran.said.startswith(f"{trial.room}/made/image:{VERSION}-git"), f"status {ran.status}\n{ran.said}{ran.error}")
+    return f"{trial.room}/made"
 
 
 @suite.case(root=True, programs=(*BUILDS, "unshare"))
 def image(trial):
     """The files of the image, its settings, and a machine of it: process 1 in a root that is read alone, ended by SIGTERM."""
-    folder, tag = made(trial)
+    folder = made(trial)
     root = f"{folder}/root"
     found = set(files_below(root))
     trial.equal("files", {name for name in found if ".so" not in name} - {"usr/bin/sh"}, FILES)
     trial.equal("the script", read(f"{root}/usr/libexec/truetime/run"), read("packaging/run"))
     trial.equal("the version", run(["chroot", root, "/usr/bin/ttd", "--version"]).answer, trial.command("--version").answer)
-    if tag:
-        try_layout(trial, f"{folder}/image", root)
+    try_layout(trial, f"{folder}/image", root)
     yield from by_a_calm_host(lambda: wrong_container(trial, root))
 
 
@@ -246,19 +245,33 @@ def wrong_container(trial, root):
             yield f"ended {lines} times, by its log"
 
 
+def linked(path):
+    """Where a link leads, or nothing, and the mode."""
+    return os.readlink(path) if os.path.islink(path) else "", stat.S_IMODE(os.lstat(path).st_mode)
+
+
 def try_layout(trial, layout, root):
     """The settings of the image, and that its layer is the root."""
-    def blob(digest):
-        return read(f"{layout}/blobs/{digest.replace(':', '/')}")
+    def blob(listed, kind):
+        content = read(f"{layout}/blobs/{listed['digest'].replace(':', '/')}")
+        trial.equal(f"the {kind}", (listed["mediaType"], listed["digest"], listed["size"]),
+                    (f"application/vnd.oci.image.{kind}", f"sha256:{hashlib.sha256(content).hexdigest()}", len(content)))
+        return content
 
+    trial.equal("oci-layout", json.loads(read(f"{layout}/oci-layout")), {"imageLayoutVersion": "1.0.0"})
     [listed] = json.loads(read(f"{layout}/index.json"))["manifests"]
-    manifest = json.loads(blob(listed["digest"]))
-    config = json.loads(blob(manifest["config"]["digest"]))["config"]
+    manifest = json.loads(blob(listed, "manifest.v1+json"))
+    whole = json.loads(blob(manifest["config"], "config.v1+json"))
+    config = whole["config"]
     trial.equal("entry point", (config["Entrypoint"], config["Cmd"], config["StopSignal"], config.get("User", "")),
                 (["/usr/libexec/truetime/run", "/usr/bin/ttd"], ["serve", "/etc/truetime/node.toml"], "SIGTERM", ""))
     [layer] = manifest["layers"]
-    with tarfile.open(fileobj=io.BytesIO(gzip.decompress(blob(layer["digest"])))) as tar:
+    content = gzip.decompress(blob(layer, "layer.v1.tar+gzip"))
+    trial.equal("diff_ids", whole["rootfs"], {"type": "layers", "diff_ids": [f"sha256:{hashlib.sha256(content).hexdigest()}"]})
+    with tarfile.open(fileobj=io.BytesIO(content)) as tar:
         members = {member.name.strip("/").removeprefix("./"): member for member in tar.getmembers()}
         trial.equal("files of the layer", {name for name, member in members.items() if member.isfile()},
                     {name for name in files_below(root) if not os.path.islink(f"{root}/{name}")})
+        trial.equal("links and modes of the layer", {name: (member.linkname, member.mode) for name, member in members.items()},
+                    {os.path.relpath(path, root): linked(path) for at, *names in os.walk(root) for path in (f"{at}/{name}" for name in sum(names, []))})
         trial.equal("owners of the layer", {(member.uid, member.gid) for member in members.values()}, {(0, 0)})

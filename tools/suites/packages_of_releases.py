@@ -86,14 +86,13 @@ def release(trial):
 
 
 def try_sums(trial, first, second):
-    """The sums are those of the files, and each file is the same in both but for the image."""
+    """The sums are those of the files, and each file is the same in both."""
     listed = dict(reversed(line.split("  ")) for line in read_text(f"{first}/SHA256SUMS").splitlines())
     trial.equal("files of SHA256SUMS", {*listed, "SHA256SUMS"}, set(os.listdir(first)))
     trial.equal("files of the second run", set(os.listdir(second)), set(os.listdir(first)))
     for name, digest in listed.items():
         trial.equal(f"sum of {name}", digest, hashlib.sha256(read(f"{first}/{name}")).hexdigest())
-        if name not in MADE["the image"]:
-            trial.check(f"{name} of another run", read(f"{first}/{name}") == read(f"{second}/{name}"), "it has other bytes")
+        trial.check(f"{name} of another run", read(f"{first}/{name}") == read(f"{second}/{name}"), "it has other bytes")
 
 
 def try_names(trial, folder, said):
