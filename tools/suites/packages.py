@@ -40,7 +40,7 @@ TRIES = (*BUILDS, "unshare", "nsenter", "ip", "setpriv", "systemd-sysusers", "sy
 UNITS = "lib/systemd/system"
 MODULE, SHARED = "usr/lib/python3/dist-packages/truetime", "usr/share/truetime"
 PYTHON_CLIENT = "clients/python/truetime"
-DOCUMENTS = ("OPERATING", "UPGRADES", "MASTERS", "FORMATS", "THREATS", "EMBEDDING", "PEERS",
+DOCUMENTS = ("OPERATING", "LIMITS", "UPGRADES", "MASTERS", "FORMATS", "THREATS", "EMBEDDING", "PEERS",
              *(f"reference/{name}" for name in ("alerts", "commands", "crates", "events", "metrics", "refusals", "settings")))
 # Where each file of a package is from. What has no place in the repository is made; of the program only the symbols are missing.
 FILES = {
@@ -68,7 +68,7 @@ if not postgres.missing_headers():
     FILES[POSTGRES] = {
         "usr/lib/postgresql/15/lib/truetime.so": None,
         **{f"usr/share/postgresql/15/extension/{name}": f"clients/postgres/{name}" for name in ("truetime.control", "truetime--0.4.sql")},
-        f"usr/share/doc/{POSTGRES}/README.md": "clients/postgres/README.md",
+        **{f"usr/share/doc/{POSTGRES}/{name}.md": f"clients/postgres/{name}.md" for name in ("README", "FIVE_MINUTES")},
         f"usr/share/doc/{POSTGRES}/examples/truetime_merge.py": "clients/postgres/merge/truetime_merge.py",
     }
 NAMES = sorted(FILES)
