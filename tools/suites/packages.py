@@ -32,7 +32,7 @@ from harness.suite import Suite, wrong_in
 from suites.clients_as_installed import SERIES, UNTYPED, VERSION, files_below
 from suites.wiring_checks import SETTINGS, eventually
 
-suite = Suite(__name__, longest_s=120, again=1, quick=False, beside_s=120)
+suite = Suite(__name__, longest_s=180, again=1, quick=False, beside_s=160)
 # The extension is a package where the headers of its server are, and is installed where the server is.
 POSTGRES = "postgresql-15-truetime"
 BUILDS = ("dpkg-buildpackage", "dh", "cmake", "git")

@@ -59,7 +59,7 @@ def copied(trial, folder):
 
 def made_of(clone, *words, umask="022", **env):
     """What came of it, in a clone."""
-    return run(["sh", "-c", 'umask "$0"; exec "$@"', umask, f"{clone}/packaging/release", "--unproved", *words], seconds=110, cwd="/",
+    return run(["sh", "-c", 'umask "$0"; exec "$@"', umask, f"{clone}/packaging/release", "--unproved", *words], seconds=150, cwd="/",
                env={**ENV, **env})
 
 
