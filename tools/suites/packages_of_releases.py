@@ -32,6 +32,8 @@ OTHERS = {
     "clients/python/truetime/__init__.py": (f'__version__ = "{VERSION}"', '__version__ = "0.0.1"'),
     "clients/rust/Cargo.toml": (f'version = "{VERSION}"', 'version = "0.0.1"'),
     "clients/valkey/truetime.c": ("#define VERSION ", "#define VERSION 1"),
+    **{f"crates/{name}": (f'"{VERSION} (', '"0.0.1 (')
+       for name in ("tt_status/specs/Metric.antt", "tt_status/src/metrics.rt")},
     "clients/postgres/truetime.control": ("default_version = '", "default_version = '9"), "VERSION": (VERSION, f"0{VERSION}"),
 }
 
