@@ -47,7 +47,7 @@ static inline const char *tt_strerror(int answer) {
         case -EADDRNOTAVAIL: return "the host's name has no address";
         case -EPROTO: return "what came is no reply";
         case -ETIMEDOUT: return "no reply or no release came in time";
-        default: return answer < 0 ? strerror(-answer) : "see docs/FORMATS.md";
+        default: return answer < 0 ? strerror(-answer) : "see docs/reference/refusals.md";
     }
 }
 

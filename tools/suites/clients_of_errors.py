@@ -18,7 +18,7 @@ PENDING, LOST = "commit 1, whose timestamp is {}", "commit 1, whose timestamp is
 PYTHON = {
     "ended": "the service ended the session", "none": "not a reply to 'now': 'hello'", "late": "no reply in time",
     "held": "the commit is not released in time", "pending": PENDING, "lost": LOST, "lease": "the lease has to be set again",
-    "803": "refused 803: the clock gave no reading", "65535": "refused 65535: see docs/FORMATS.md", "not begun": "no commit was begun",
+    "803": "refused 803: the clock gave no reading", "65535": "refused 65535: see docs/reference/refusals.md", "not begun": "no commit was begun",
     "bad line": "not a line: 'x", "closed": "the session is closed",
 }
 RUST = {**PYTHON, "ended": "the connection failed: unexpected end of file", "none": "the connection failed: invalid data",
@@ -29,13 +29,13 @@ WORDS = {
         "ended": "the service ended the session; if it had a lease, it has to be set again", "none": "what came is no reply",
         "late": "no reply or no release came in time", "held": "no reply or no release came in time",
         "pending": "the last commit is not known as released: call tt_session_wait", "lost": "", "lease": "",
-        "803": "the clock gave no reading", "65535": "see docs/FORMATS.md", "not begun": "Invalid argument", "bad line": "Invalid argument",
+        "803": "the clock gave no reading", "65535": "see docs/reference/refusals.md", "not begun": "Invalid argument", "bad line": "Invalid argument",
         "closed": "the session is not open",
     },
     "Java": {**PYTHON, "none": "not a reply to now", "bad line": "not a line: x", "closed": "ClosedChannelException"},
     "Go": {**PYTHON, "ended": "truetime: the connection failed: unexpected EOF", "none": 'not a reply to "now": "hello"',
            "late": "truetime: the connection failed: i/o timeout", "held": "context deadline exceeded",
-           "803": "truetime: refused 803: the clock gave no reading", "65535": "truetime: refused 65535: see docs/FORMATS.md", "not begun": "truetime: no commit was begun",
+           "803": "truetime: refused 803: the clock gave no reading", "65535": "truetime: refused 65535: see docs/reference/refusals.md", "not begun": "truetime: no commit was begun",
            "bad line": "truetime: the line is too long", "closed": "use of closed network connection"},
 }
 # What is said only of what was lost.

@@ -131,7 +131,7 @@ static void try_stampers(const char *path) {
 }
 
 static void try_words(void) {
-    wants("words", strcmp(tt_strerror(65535), "see docs/FORMATS.md"), 0);
+    wants("words", strcmp(tt_strerror(65535), "see docs/reference/refusals.md"), 0);
     wants("words of the system", strcmp(tt_strerror(-ECONNREFUSED), strerror(ECONNREFUSED)), 0);
 }
 

@@ -69,7 +69,7 @@ var meanings = map[Refusal]string{
 func (r Refusal) Error() string {
 	meaning, ok := meanings[r]
 	if !ok {
-		meaning = "see docs/FORMATS.md"
+		meaning = "see docs/reference/refusals.md"
 	}
 	return "truetime: refused " + strconv.Itoa(int(r)) + ": " + meaning
 }

@@ -564,7 +564,7 @@ func TestErrors(t *testing.T) {
 	}
 	for refusal, text := range map[Refusal]string{
 		1704: "truetime: refused 1704: another publication came during each of the tries",
-		7777: "truetime: refused 7777: see docs/FORMATS.md",
+		7777: "truetime: refused 7777: see docs/reference/refusals.md",
 	} {
 		if refusal.Error() != text {
 			t.Error(refusal)

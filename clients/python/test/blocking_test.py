@@ -125,7 +125,7 @@ class Errors(unittest.TestCase):
         self.assertEqual(truetime.Refused(1824).number, truetime.Refusal.READING_TOO_WIDE)
         for number in range(1, 65_536):
             is_named = number in truetime.Refusal.__members__.values()
-            self.assertEqual(str(truetime.Refused(number)).endswith("see docs/FORMATS.md"), not is_named)
+            self.assertEqual(str(truetime.Refused(number)).endswith("see docs/reference/refusals.md"), not is_named)
 
 
 class Echoing(socketserver.StreamRequestHandler):

@@ -68,7 +68,7 @@ class Refused(Exception):
     """A refusal; ``number`` says which: :class:`Refusal` has their names."""
 
     def __init__(self, number: int, more: str = "") -> None:
-        super().__init__(f"refused {number}: {_MEANINGS.get(number, 'see docs/FORMATS.md')}{more}")
+        super().__init__(f"refused {number}: {_MEANINGS.get(number, 'see docs/reference/refusals.md')}{more}")
         self.number = number
         self._more = more
 

@@ -34,7 +34,7 @@ macro_rules! refusals {
             fn meaning(self) -> &'static str {
                 match self {
                     $(Refused::$name => $text,)*
-                    Refused::Other(_) => "see docs/FORMATS.md",
+                    Refused::Other(_) => "see docs/reference/refusals.md",
                 }
             }
         }

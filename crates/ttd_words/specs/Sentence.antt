@@ -23,4 +23,4 @@ sentence_of n =
     else if nat_eq n 1822 then codes "the connection or the machine ended while the commit was pending"
     else if nat_eq n 1823 then codes "the machine knows that one of its assumptions is broken"
     else if nat_eq n 1824 then codes "the reading is wider than max_width of the machine: its sources answered long ago, or slowly (see its status)"
-    else codes "docs/FORMATS.md says what the number means"
+    else codes "docs/reference/refusals.md says what the number means"

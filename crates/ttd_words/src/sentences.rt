@@ -30,6 +30,6 @@ pub fn sentence_of(number: u64) -> &'static str
         1823 => "the machine knows that one of its assumptions is broken",
         1824 =>
             "the reading is wider than max_width of the machine: its sources answered long ago, or slowly (see its status)",
-        _ => "docs/FORMATS.md says what the number means",
+        _ => "docs/reference/refusals.md says what the number means",
     }
 }

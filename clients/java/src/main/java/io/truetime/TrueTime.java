@@ -189,7 +189,7 @@ public final class TrueTime implements AutoCloseable {
         }
 
         private Refused(int number, String more, Throwable cause) {
-            super("refused " + number + ": " + MEANINGS.getOrDefault(number, "see docs/FORMATS.md") + more, cause, false, false);
+            super("refused " + number + ": " + MEANINGS.getOrDefault(number, "see docs/reference/refusals.md") + more, cause, false, false);
             this.number = number;
         }
 
