@@ -73,38 +73,38 @@ pub fn serve_polls<H: ServiceHost + Disk + AsksServers>(
     plan: MasterPlan<'_>,
 ) -> Result<(), StartFault> {
     let Some(path) = plan.keys else {
-        return serve_open(rt, &plan);
+        return serve_open(rt, plan);
     };
     let mut file = KeyFile::new(path);
     let keys = first_keys(rt, &mut file, path)?;
-    serve_sealed(rt, &plan, file, keys)
+    serve_sealed(rt, plan, file, keys)
 }
 
 /// Answers open polls, until the process is ended.
 fn serve_open<H: ServiceHost + Disk + AsksServers>(
     rt: &H,
-    plan: &MasterPlan<'_>,
+    plan: MasterPlan<'_>,
 ) -> Result<(), StartFault> {
-    let reporter = reporter_of(rt, plan)?;
-    let mut player = player_of(rt, &reporter, plan)?;
-    let socket = begin(rt, &reporter, plan)?;
+    let reporter = reporter_of(rt, &plan)?;
+    let mut player = player_of(rt, &reporter, &plan)?;
+    let socket = begin(rt, &reporter, &plan)?;
     let link = AnsweringLink::new(socket, false);
-    answer_open(rt, &reporter, plan, link, &mut player)
+    answer_open(rt, &reporter, &plan, link, &mut player)
 }
 
 /// Answers polls that are sealed under one of these keys, the first of this file, until the process is ended.
 fn serve_sealed<H: ServiceHost + Disk + AsksServers>(
     rt: &H,
-    plan: &MasterPlan<'_>,
+    plan: MasterPlan<'_>,
     file: KeyFile<'_>,
     keys: Vec<Key>,
 ) -> Result<(), StartFault> {
-    let reporter = reporter_of(rt, plan)?;
-    let mut player = player_of(rt, &reporter, plan)?;
-    let socket = begin(rt, &reporter, plan)?;
+    let reporter = reporter_of(rt, &plan)?;
+    let mut player = player_of(rt, &reporter, &plan)?;
+    let socket = begin(rt, &reporter, &plan)?;
     let link = AnsweringLink::new(socket, true);
     let sealed = Sealed::new(rt, link, file, keys)?;
-    answer_sealed(rt, &reporter, plan, sealed, &mut player)
+    answer_sealed(rt, &reporter, &plan, sealed, &mut player)
 }
 
 /// The master of this number.
