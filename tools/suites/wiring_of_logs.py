@@ -184,6 +184,7 @@ def starts_after_breaks(trial):
     for breaks, pause_ns in ((0, 0), (1, SECOND // 10), (2, SECOND // 5)):
         node.run()
         node.wait_until_ready()
+        trial.numbers(node, broken_lives=breaks)
         trial.equal("log start_paused", len(node.said("start_paused")), breaks)
         if breaks:
             trial.logs(node, "start_paused", breaks=breaks, pause_ns=pause_ns)
