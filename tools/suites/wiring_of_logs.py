@@ -171,6 +171,10 @@ def sleep_that_is_not_seen(trial):
     spoils.tell("no-uptime")
     trial.check("log sleep_unseen", eventually(lambda: len(node.said("sleep_unseen")) == 2), "it is not said a second time")
     trial.between("status slept", SECOND * 154 // 100, trial.numbers(node, sleep_unseen=1, breaks=2)["slept"], SECOND * 160 // 100)
+    # It sleeps while nobody sees it: that shows once the uptime can be read again.
+    spoils.tell("uptime", str(3 * 800_000_000))
+    os.remove(spoils.path("no-uptime"))
+    trial.between("status slept", SECOND * 231 // 100, trial.numbers(node, sleep_unseen=0, breaks=3)["slept"], SECOND * 240 // 100)
 
 
 @suite.case()
