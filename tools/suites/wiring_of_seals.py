@@ -195,7 +195,7 @@ def two_addresses_of_a_name(trial):
     spoils = Spoils(trial.room)
     spoils.tell("addresses", "127.0.0.2 127.0.0.1")
     first, last = ({"address": master.address} for master in trial.scripts(honest, honest))
-    node = trial.node([first, table(local, 7, "localhost"), last], keys=keys_at(trial), poll="400ms", wait="100ms")
+    node = trial.node([first, table(local, 7, "localhost"), last], keys=keys_at(trial), poll="400ms", wait="200ms")
     node.environment = spoils.environment
     with socket.socket(socket.AF_INET, socket.SOCK_DGRAM) as door:
         door.bind(("127.0.0.2", port))
@@ -219,6 +219,10 @@ def two_addresses_of_a_name(trial):
         trial.equal("packets to an address behind that of a master that answers", asked(), 0)
         local.acts = [silent]
         trial.check("setting master", eventually(asked, 8), "the first address is not asked again once the other one is silent")
+        # So is each further one asked for as long: the thread looks each second, and four rounds last for 2.4.
+        known, since = len(local.times), time.time_ns()
+        is_asked = eventually(lambda: len(local.times) > known, 8)
+        trial.between("for how long the next silent address is asked", 2, (local.times[known] - since) / SECOND if is_asked else 0, 6)
 
 
 @suite.case()
