@@ -4,7 +4,8 @@
   pending commit and without replies to take, and nobody else is closed. 10,000 on 32 workers: each answers, soon, and takes little memory; in
   the end all is as before.
 - A new one comes to the worker that has the fewest, also after others have left, and of 300 at once none is forgotten.
-- Sessions of one worker do not wait for each other: not for commits that wait, nor for a client that reads nothing, and that loses no reply.
+- Sessions of one worker do not wait for each other: not for commits that wait, nor for a client that sends urgent bytes or reads nothing, and
+  that loses no reply.
 - Lines that come in pieces, or before the client closes its side, are answered. A client is let go after `idle` without a whole line.
 - A machine with 500 sessions ends soon. One session more than there are workers is served at once, and so are those behind it.
 - Where a call of the system fails, as the cases in sessions_of_failures.py say, nobody is left without a reply and without an end.
@@ -461,6 +462,30 @@ def a_client_that_reads_nothing(trial):
                 or statistics.median(later) > 2 * MILLISECOND + usual(held_later, later)):
             yield (f"a line of another session took {in_us(median_and_tail(took))} us, and at most {took[-1] // MILLISECOND} ms; and "
                    f"{in_us(median_and_tail(later))} us where nothing more was taken of the client that reads nothing")
+
+
+@suite.case(quiet=True)
+def urgent_bytes(trial):
+    """Who sends them keeps its session, and holds no other one of its worker up: of the Unix socket they make a connection ready that has no bytes."""
+    node = trial.node_of_two()
+    for address in (node.address, node.path("socket")):
+        with contextlib.ExitStack() as stack:
+            other, *doors = (Door(stack, address) for _ in range(4))
+            yield from wrong_in([other, *doors])[0]
+            took = []
+            for _ in range(9):
+                for door in doors:
+                    with contextlib.suppress(OSError):  # a kernel may have none for Unix sockets
+                        door.door.send(b"n", socket.MSG_OOB)
+                what, nanoseconds = other.now()
+                took.append(nanoseconds)
+                if what:
+                    yield what
+            took.sort()
+            trial.note(f"beside urgent bytes at {address} a line takes {in_us(median_and_tail(took))} us (median, 99th percentile)")
+            if took[0] > 150 * MILLISECOND:  # a read that waits does so for 200
+                yield f"a line takes {in_us(took)} us beside sessions of {address} that send urgent bytes"
+            yield from wrong_in(doors)[0]
 
 
 def other_replies(replies, began, ended):
