@@ -5,7 +5,9 @@ clock sees one that tools/spoil_calls.c moves on.
 """
 import contextlib
 import os
+import re
 import resource
+import shutil
 import socket
 import stat
 import subprocess
@@ -16,10 +18,10 @@ from harness.processes import SECOND, Process, free_port, truetime
 from harness.program import compile_c, read_text, write
 from harness.trouble import Answerer, Spoils, disrupt, full_pipe, honest, page, silent
 from suites.wiring import suite
-from suites.wiring_checks import HERE, TIMES as TIMES_OF_ALL, TIMES_OF_OTHERS, eventually, lies, places_of
+from suites.wiring_checks import HERE, TIMES as TIMES_OF_ALL, TIMES_OF_OTHERS, eventually, lies, places_of, status_of
 from suites.wiring_of_pages import get, with_pages
 from suites.wiring_of_masters import Spoiled
-from suites.wiring_of_seals import FIRST, keys_at, scripted, table
+from suites.wiring_of_seals import FIRST, keys_at, polls_at, scripted, table
 
 FLAGS = "-Wall", "-Wextra", "-Wshadow", "-Wconversion", "-Werror", "-shared", "-fPIC"
 MILLISECOND = SECOND // 1000
@@ -206,6 +208,33 @@ def ends_once_all_is_written(trial):
 
 
 @suite.case()
+def ends_once_nothing_is_left(trial):
+    """No end waits for a status that was left out, nor for one that could not be written: in one of five lives at least, as above."""
+    node, spoils = trial.spoilable(trial.scripts(honest), poll="20ms")
+    for what in ("left_out", "status_unwritten"):
+        took = []
+        for number in range(1, 6):
+            if node.running.poll() is not None:
+                os.remove(node.path("status"))
+                node.run()
+                node.wait_until_ready()
+            if what == "left_out":
+                with spoils.spoiled("rename"):
+                    time.sleep(0.2)
+                trial.check("status left_out", eventually(lambda: status_of(node)["left_out"] > 0), "no status is left out")
+            else:
+                eventually(lambda: os.makedirs(node.path("status.new/kept")) or True, pause_s=0.001)
+                is_told = eventually(lambda number=number: len(node.said(what)) == number)
+                trial.check("log status_unwritten", is_told, f"it is told {len(node.said(what))} times in {number} lives")
+                shutil.rmtree(node.path("status.new"), ignore_errors=True)
+                eventually(lambda: os.path.exists(node.path("status")))
+            node.running.stdin.close()
+            node.running.wait(20)
+            took.append(time.time_ns() - int(node.said("ended")[-1]["time"]))
+        trial.check("time end look", min(took) < 150 * MILLISECOND, f"behind {what} it ends {took} ns after it says so")
+
+
+@suite.case()
 def waits_of_names(trial):
     """A machine looks each second whether a name is to be looked up."""
     host = socket.getaddrinfo("localhost", 0, type=socket.SOCK_DGRAM)[0][4][0]
@@ -254,6 +283,28 @@ def minute_between_lookups(trial):
     trial.equal("time lookup", looks(), 1)
     spoils.turn(jump_ns=61 * SECOND)
     trial.check("time lookup", eventually(lambda: looks() == 2), f"{looks()} lookups in more than two minutes")
+
+
+@suite.case()
+def address_behind_a_lookup(trial):
+    """A lookup that finds the addresses of a silent master once more leaves its place among them: behind the second the third is asked, and not the
+    first."""
+    node, spoils, looks = named_by_one(trial)
+    hosts = [f"127.0.0.{number}" for number in (2, 3, 4)]
+    spoils.tell("addresses", " ".join(hosts))
+    with contextlib.ExitStack() as stack:
+        doors = [stack.enter_context(socket.socket(socket.AF_INET, socket.SOCK_DGRAM)) for _ in hosts]
+        port = int(re.search(r'"localhost:(\d+)"', read_text(node.path("node.toml"))).group(1))
+        for door, host in zip(doors, hosts):
+            door.bind((host, port))
+            door.setblocking(False)
+        node.run()
+        trial.check("time lookup", eventually(lambda: polls_at(doors[1]), 10), "the second address is not asked")
+        spoils.turn(jump_ns=61 * SECOND)
+        polls_at(doors[0])
+        trial.check("time lookup", eventually(lambda: looks() == 2), f"{looks()} lookups in more than a minute")
+        trial.check("time lookup", eventually(lambda: polls_at(doors[2]), 8), "the third address is not asked")
+        trial.equal("polls at the first address behind a lookup", polls_at(doors[0]), 0)
 
 
 @suite.case()
