@@ -306,3 +306,8 @@ def records_of_breaks(trial):
             yield f"after {breaks} breaks, the last one at {clock} and now at {now}, it pauses for {seen} ns"
     if pause := pause_of(trial, "other", b"tt-break 1 1 1\n"):
         yield f"after another text it pauses for {pause} ns"
+    # What was counted stays so, however long ago the last one was.
+    node = trial.node(trial.masters(3), "long-ago")
+    write(node.path("state/break"), b"tt-break 2 1 %d 5\n" % wanted[5][1])
+    node.run()
+    yield from node.comes_to("broken_lives_total", 5, 6)
