@@ -388,6 +388,14 @@ def end_of_input(trial):
             node.wait_until_ready()
             time.sleep(0.4)
             trial.check("--until-eof", node.running.poll() is None, "it ends without being told")
+    # What comes before the end of the input is no end.
+    node = trial.running_node(trial.scripts(honest), "C")
+    for _ in range(2):
+        os.write(node.running.stdin.fileno(), b"now\n" * 200)
+        time.sleep(0.3)
+    trial.check("--until-eof", node.running.poll() is None, "it ends with bytes of its input")
+    for what in node.ends():
+        trial.check("--until-eof", False, what)
 
 
 @contextlib.contextmanager
