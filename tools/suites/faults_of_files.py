@@ -599,6 +599,25 @@ def lock_that_may_only_be_read(trial):
 
 
 @suite.case(root=True)
+def shared_file_that_may_not_be_opened(trial):
+    """A new one takes the place of one that the machine's own user may not write."""
+    node = trial.running_node(trial.masters(3))
+    yield from is_read(trial, node)
+    node.kill()
+    node.program = os.path.join(trial.room, "ttd")
+    shutil.copy(trial.program, node.program)
+    for folder, _, names in os.walk(node.folder):
+        for path in (folder, *(os.path.join(folder, name) for name in names)):
+            os.chown(path, trouble.NOBODY, trouble.NOBODY)
+    os.chmod(node.path("shared"), 0o400)
+    os.remove(node.path("status"))
+    node.run(user=trouble.NOBODY, group=trouble.NOBODY, extra_groups=[])
+    yield from node.comes_to("sharing", 1, 5)
+    if (mode := os.stat(node.path("shared")).st_mode & 0o777) != 0o644:
+        yield f"its mode is {mode:o}"
+
+
+@suite.case(root=True)
 def shared_file_prepared_by_another(trial):
     """It is not taken for the machine's own."""
     folder = os.path.join(trial.room, "open")
