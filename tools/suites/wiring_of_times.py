@@ -272,8 +272,9 @@ def minute_between_failed_lookups(trial):
 
 @suite.case()
 def minute_between_lookups(trial):
-    """The name of a silent master is looked up again a minute after its last lookup ended, however long that took."""
+    """The name of a silent master is looked up again a minute after its last lookup ended, however long that took. An address that it had is no news."""
     node, spoils, looks = named_by_one(trial)
+    spoils.tell("addresses", "127.0.0.1")
     with spoils.spoiled("lookup"):
         node.run()
         trial.check("time lookup", eventually(looks), "its name is not looked up")
@@ -283,6 +284,9 @@ def minute_between_lookups(trial):
     trial.equal("time lookup", looks(), 1)
     spoils.turn(jump_ns=61 * SECOND)
     trial.check("time lookup", eventually(lambda: looks() == 2), f"{looks()} lookups in more than two minutes")
+    rounds = status_of(node)["rounds"]
+    eventually(lambda: status_of(node)["rounds"] > rounds + 3)
+    trial.equal("log source_resolved", len(node.said("source_resolved")), 1)
 
 
 @suite.case()
