@@ -10,15 +10,16 @@
  * Others say in their file what is shown. `course` has lines FROM SHOWN RATE, in nanoseconds and parts per million: once the monotonic
  * clock shows FROM it shows SHOWN, and runs by RATE faster; so it stands still by a RATE of -1000000. /proc/uptime goes with that clock, as
  * in a guest that is paused, and shows besides as many nanoseconds more as `uptime` says, as after a suspend; it cannot be read by
- * `no-uptime`. `timens` is what stands in /proc/self/timens_offsets. `unread` has a sign for each reading of the monotonic clock from when
- * it is there: that of an x fails, and behind its end the last sign counts. `date` has the nanoseconds since 1970 that the real-time clock
- * shows. All programs that have the same folder see the same clock. */
+ * `no-uptime`. `timens` is what stands in /proc/self/timens_offsets, which is not there by `no-timens`. `unread` has a sign for each
+ * reading of the monotonic clock from when it is there: that of an x fails, and behind its end the last sign counts. `date` has the
+ * nanoseconds since 1970 that the real-time clock shows. All programs that have the same folder see the same clock. */
 #define _GNU_SOURCE
 #include <dlfcn.h>
 #include <errno.h>
 #include <fcntl.h>
 #include <netdb.h>
 #include <netinet/in.h>
+#include <stdarg.h>
 #include <stdatomic.h>
 #include <stdio.h>
 #include <stdlib.h>
@@ -166,6 +167,15 @@ static ssize_t shown_of(int file, char *place, size_t size, ssize_t length) {
     }
     if (strstr(path, "/timens_offsets") && is_spoiled("timens")) return content_of("timens", place, size);
     return length;
+}
+
+int open(const char *path, int flags, ...) {
+    va_list rest;
+    va_start(rest, flags);
+    int mode = flags & (O_CREAT | O_TMPFILE) ? va_arg(rest, int) : 0;
+    va_end(rest);
+    if (strstr(path, "/timens_offsets") && is_spoiled("no-timens")) { errno = ENOENT; return -1; }
+    return (int)syscall(SYS_openat, AT_FDCWD, path, flags, mode);
 }
 
 ssize_t read(int file, void *place, size_t size) {

@@ -250,3 +250,16 @@ def offsets_of_a_time_namespace(trial):
         yield "there is a shared file"
     yield from node.comes_to("sharing", 0, 2)
     yield from node.answers()
+
+
+@suite.case()
+def kernel_without_time_namespaces(trial):
+    """It has no file of their offsets: the clock is that of the host, so the machine shares, and readers read."""
+    node, spoils = trial.node(trial.masters(3)), Spoils(trial.room)
+    spoils.tell("no-timens")
+    node.environment = spoils.environment
+    node.run()
+    node.wait_until_ready()
+    yield from node.comes_to("sharing", 1, 2)
+    if not (said := trial.command("read", node.path("shared"), env=spoils.environment).said).startswith("now "):
+        yield f"`ttd read` gives {said}"
