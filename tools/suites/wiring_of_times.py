@@ -312,6 +312,30 @@ def address_behind_a_lookup(trial):
 
 
 @suite.case()
+def lookup_without_an_address_that_is_reached(trial):
+    """Where a host has no IPv6, a lookup that finds such an address alone is told of, and leaves those that are known: they are asked in turn."""
+    node, spoils, looks = named_by_one(trial)
+    spoils.tell("six")
+    spoils.tell("addresses", "127.0.0.2 127.0.0.3")
+    port = int(re.search(r'"localhost:(\d+)"', read_text(node.path("node.toml"))).group(1))
+    with contextlib.ExitStack() as stack:
+        doors = [stack.enter_context(socket.socket(socket.AF_INET, socket.SOCK_DGRAM)) for _ in range(2)]
+        for door, host in zip(doors, ("127.0.0.2", "127.0.0.3")):
+            door.bind((host, port))
+            door.setblocking(False)
+        node.run()
+        trial.check("time lookup", eventually(lambda: polls_at(doors[1]), 10), "the second address is not asked")
+        spoils.tell("addresses", "::1")
+        spoils.turn(jump_ns=61 * SECOND)
+        trial.check("time lookup", eventually(lambda: looks() == 2), f"{looks()} lookups in more than a minute")
+        trial.logs(node, "source_unresolved", source=0)
+        for door in doors:
+            polls_at(door)
+        for door in doors:
+            trial.check("time lookup", eventually(lambda door=door: polls_at(door), 8), "an address that is known is not asked any more")
+
+
+@suite.case()
 def replies_at_once(trial):
     """No reply over TCP waits for others to be sent with."""
     node, notes = trial.node(trial.scripts(honest)), Notes(trial, "machine")
