@@ -216,6 +216,22 @@ def more_than_may_wait(trial):
             yield from node.comes_to("sessions_open", 1, 2)
 
 
+@suite.case(programs=("prlimit",))
+def more_than_may_wait_within_few_descriptors(trial):
+    """So it is where 200 descriptors leave each of two workers room for 12 that wait: 30 have come before it looks, also on a busy host."""
+    node = trial.node(trial.masters(3), workers=2)
+    node.run(["prlimit", "--nofile=200:200"])
+    node.wait_until_ready()
+    for address in (node.address, node.path("socket")) * 2:
+        yield from node.comes_to("sessions_open", 0, 2)
+        with contextlib.ExitStack() as stack:
+            first = Door(stack, address)
+            first.now()
+            doors = [first] + [Door(stack, address) for _ in range(30)]
+            yield from node.comes_to("sessions_open", 31, 2)
+            yield from wrong_in(doors)[0]
+
+
 def measure(doors, rounds):
     """The least median and tail of a line over some rounds, and what is wrong."""
     found, wrong = [], []
