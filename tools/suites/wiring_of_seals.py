@@ -8,7 +8,7 @@ import time
 
 from harness.processes import SECOND
 from harness.program import run, write
-from harness.trouble import Network, Spoils, honest, silent
+from harness.trouble import NOBODY, Network, Spoils, honest, silent
 from harness.wire import REQUEST, sealed
 from suites.wiring import suite
 from suites.wiring_checks import Sealed, answer, eventually, put_keys, status_of
@@ -289,6 +289,27 @@ def refused_keys(trial):
     os.mkdir(os.path.join(trial.room, "folder"))
     other = trial.node([{"address": "127.0.0.1:5701", "key": 7}], "B", keys=os.path.join(trial.room, "folder"))
     trial.equal("refusal 2211", trial.command(*other.words).answer, ("refused 2211\n", 4))
+
+
+@suite.case(root=True)
+def keys_of_another_user(trial):
+    """A machine of another user than root takes the file of keys of that user."""
+    master = scripted(trial, {7: FIRST}, honest)
+    node = trial.node([table(master, 7)], keys=keys_at(trial))
+    node.program = os.path.join(trial.room, "ttd")
+    shutil.copy(trial.program, node.program)
+    for path in (node.folder, node.path("state"), os.path.join(trial.room, "keys")):
+        os.chown(path, NOBODY, NOBODY)
+    node.run(user=NOBODY, group=NOBODY, extra_groups=[])
+    trial.numbers(node, key=[7])
+
+
+@suite.case(root=True, programs=("unshare", "mount"))
+def host_that_says_nothing_of_six(trial):
+    """A host without IPv6 has no file that says what its sockets reach: a master with a name and one with an address of IPv4 are taken."""
+    node = trial.node([{"address": "127.0.0.1:5701", "key": 7}, {"address": "localhost:5702", "key": 8}], keys=keys_at(trial))
+    node.run(["unshare", "--mount", "sh", "-c", 'mount -t tmpfs none /proc/sys/net/ipv6 && exec "$@"', "sh"])
+    trial.logs(node, "started")
 
 
 @suite.case()
