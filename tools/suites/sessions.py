@@ -232,6 +232,25 @@ def more_than_may_wait_within_few_descriptors(trial):
             yield from wrong_in(doors)[0]
 
 
+@suite.case(quiet=True)
+def first_come_first_served(trial):
+    """Those that come while their worker waits for another one are served in the order in which they came, in one of three tries at least."""
+    node = trial.node_of_two()
+    for address in (node.address, node.path("socket")):
+        tries = []
+        while len(tries) < 3 and not any(times == sorted(times) for times in tries):
+            with contextlib.ExitStack() as stack:
+                yield from wrong_in([Door(stack, address)])[0]
+                doors = []
+                for _ in range(20):
+                    doors.append(Door(stack, address))
+                    doors[-1].send(b"now\n")
+                tries.append([int(door.reply().split()[1]) for door in doors])
+            yield from node.comes_to("sessions_open", 0, 1)
+        if not any(times == sorted(times) for times in tries):
+            yield f"at {address} they have the readings {tries[-1]}"
+
+
 def measure(doors, rounds):
     """The least median and tail of a line over some rounds, and what is wrong."""
     found, wrong = [], []
