@@ -232,6 +232,25 @@ def more_than_may_wait_within_few_descriptors(trial):
             yield from wrong_in(doors)[0]
 
 
+@suite.case(quiet=True, programs=("prlimit",))
+def more_than_may_wait_beside_the_socket(trial):
+    """While more have come at the address than may wait, one that comes at the Unix socket is served at once, in one of four tries at least."""
+    node, took = trial.node(trial.masters(3), workers=2), []
+    node.run(["prlimit", "--nofile=200:200"])
+    node.wait_until_ready()
+    for _ in range(4):
+        yield from node.comes_to("sessions_open", 0, 2)
+        with contextlib.ExitStack() as stack:
+            Door(stack, node.address).now()  # its worker waits for it alone from here on
+            for _ in range(30):
+                Door(stack, node.address)
+            began = time.monotonic_ns()
+            yield from wrong_in([Door(stack, node.path("socket"))])[0]
+            took.append(time.monotonic_ns() - began)
+    if min(took) > 60 * MILLISECOND:
+        yield f"it is served after {in_us(took)} us"
+
+
 @suite.case(quiet=True)
 def first_come_first_served(trial):
     """Those that come while their worker waits for another one are served in the order in which they came, in one of three tries at least."""
