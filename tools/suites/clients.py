@@ -28,7 +28,7 @@ from concurrent.futures import ThreadPoolExecutor
 from harness.program import WARNINGS, in_top, run, write
 from harness.suite import Suite
 
-suite = Suite(__name__, beside_s=260)
+suite = Suite(__name__)
 CLIENTS, GO = in_top("clients"), in_top("clients/go/truetime")
 MAX, SECOND = 4_000_000_000_000_000_000, 1_000_000_000
 

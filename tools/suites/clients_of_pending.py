@@ -157,5 +157,8 @@ def pending_tables(trial):
         with Shared(path) as shared, Reader(words, "pending") as probe:
             shared.publish(early=WIDTH, late=WIDTH)
             trial.equal(name, probe.say(f"open {path}"), "open")
-            trial.equal(name, probe.say("threads 4 500"), "2000 stamps, 2000 different, some snapshots, 0 torn")
+            said = probe.say("threads 4 500")
+            if "no snapshots" in said:  # on a busy host the reader may have had no processor meanwhile
+                said = probe.say("threads 4 500")
+            trial.equal(name, said, "2000 stamps, 2000 different, some snapshots, 0 torn")
         trial.note(f"{name}: {checks} answers, {len(trial.result.wrong) - before} wrong")
