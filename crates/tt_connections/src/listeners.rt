@@ -14,6 +14,7 @@ use std::os::unix::fs::{FileTypeExt, MetadataExt};
 use std::os::unix::net::UnixListener;
 use std::time::Duration;
 use tt_files::Reason;
+use tt_host::bound_buffers;
 
 /// The longest wait of one read of a connection, in nanoseconds. So a worker soon sees that the machine ends, and that
 /// another session has come.
@@ -257,7 +258,12 @@ fn came_of(error: &io::Error) -> Came {
     }
 }
 
-/// The connection, with a limit on the wait of its reads and writes. It is not served if the limits can't be set.
+/// How many bytes the kernel is asked to keep of a connection, each way: it takes twice as many, so all of a session costs at most
+/// 64 KiB, whatever its client sends and does not read.
+const BUFFER: u32 = 12_288;
+
+/// The connection, with a limit on the wait of its reads and writes, and on what the kernel keeps. It is not served if the limits
+/// can't be set.
 fn ready(stream: TcpStream) -> Came {
     let (read, write) = (
         Duration::from_nanos(SLICE),
@@ -265,6 +271,7 @@ fn ready(stream: TcpStream) -> Came {
     );
     if stream.set_read_timeout(Some(read)).is_err()
         || stream.set_write_timeout(Some(write)).is_err()
+        || !bound_buffers(&stream, BUFFER)
     {
         return Came::Nobody;
     }

@@ -7,39 +7,30 @@
 //!
 //! ```text
 //! if !meets_last(&last, drift, &fused) { .. }              // too many sources are faulty, or the clock broke its bound
-//! let slept = slept_between(&earlier, &later);             // 0 where delays explain the difference of the two looks
 //! let answers = answers_after(&answers, &report.sources);  // after each round
 //! let since = nth_newest(&answers, n, n - f);              // since when n - f of the sources have answered
 //! ```
 //!
 //! - `answers`: the last answers of the sources, and since when so many of them have answered.
 //! - `breaks`: whether a publication meets the last one, aged to its clock reading.
-//! - `guests`: what the host tells a guest of its clock.
 //! - `pauses`: what is kept of a life that ended by a break, and how long the next start waits.
 //! - `rates`: how fast the time of a source goes against the clock of the machine.
-//! - `sleeps`: how long the host slept. `uptimes`: the text of `/proc/uptime`.
 //! - `trips`: classes of round trips. `widths`: classes of widths of readings.
 #![tactic(auto)]
 
 mod answers;
 mod breaks;
-mod guests;
 mod pauses;
 mod rates;
-mod sleeps;
 mod trips;
-mod uptimes;
 mod widths;
 
 pub use answers::{Answer, answer_laws, answers_after, nth_newest};
 pub use breaks::{aged_last, meets_last};
-pub use guests::disruptions_in;
 pub use pauses::{
     BreakRecord, breaks_in_a_row, breaks_recorded, pause_before_start, record_after, record_of,
     record_text,
 };
 pub use rates::{Rate, Sample, Track};
-pub use sleeps::{Lead, Look, is_wide, narrowed, sleep_laws, slept_between};
 pub use trips::{TRIP_BOUNDS, trip_place};
-pub use uptimes::{uptime_in, uptime_laws};
 pub use widths::{WIDTH_BOUNDS, width_place};

@@ -1,5 +1,6 @@
 //! What a program needs of the host that it runs on, as one bound in place of a dozen.
 
+use crate::clocks::HostClocks;
 use std::fs::{File, Files};
 use std::io::Eprint;
 use std::net::{Net, TcpListener, TcpStream};
@@ -11,6 +12,7 @@ use std::time::Clock;
 /// What each command needs: memory, clocks, files, sockets, and standard error. The runtime handle has all of it.
 pub trait Host: AllocGlobal
     + Clock
+    + HostClocks
     + Eprint
     + Files<File = File>
     + Net<Listener = TcpListener, Stream = TcpStream> {}
@@ -19,6 +21,7 @@ impl<H> Host for H
 where
     H: AllocGlobal
         + Clock
+        + HostClocks
         + Eprint
         + Files<File = File>
         + Net<Listener = TcpListener, Stream = TcpStream>,

@@ -3,19 +3,15 @@
 ghost use Rattle.std.specs.Prelude.{◌≡◌, true, false};
 ghost use Rattle.tt_host.specs.declared.signs.Sleep.TheVariants.{Unseen};
 
-use std::fs::{File, Files, OpenOptions};
-use std::io::{self, Error, ErrorKind};
+use crate::clocks::{HostClock, HostClocks};
+use crate::files::{open_at, read_start};
+use crate::guests::disruptions_in;
+use crate::sleeps::{Lead, Look, is_wide, narrowed, slept_between};
+use crate::slews::SlewLook;
+use std::fs::{File, Files};
+use std::io;
 use std::marker::Model;
-use std::os::unix::fs::{FileExt, MetadataExt};
-use std::time::Clock as SystemClock;
-use tt_health::{Lead, Look, disruptions_in, is_wide, narrowed, slept_between, uptime_in};
-use tt_shared::read_start;
-
-/// How long the host has been up, sleep included.
-const UPTIME: &str = "/proc/uptime";
-
-/// What is on the same device as the kernel's own file.
-const OF_KERNEL: &str = "/proc/self";
+use std::time::Duration;
 
 /// How often a round looks at most, where a delay makes a look worthless.
 const LOOKS: u32 = 3;
@@ -23,72 +19,78 @@ const LOOKS: u32 = 3;
 /// The most bytes that are read of a file.
 pub const MOST: usize = 64;
 
-/// The bits of a mode that say what a file is, and what they are for a FIFO.
-const KIND: u32 = 0o170000;
-
-const FIFO: u32 = 0o010000;
-
 /// Reads the first bytes of a file that is no FIFO, which could have it wait. Answers how many.
 pub fn read_at<R: Files<File = File>>(
     rt: &R,
     path: &str,
     bytes: &mut [u8; MOST],
 ) -> io::Result<usize> {
-    if rt.metadata(path)?.mode() & KIND == FIFO {
-        return Err(Error::from(ErrorKind::InvalidInput));
-    }
-    let mut how = OpenOptions::new();
-    how.read(true);
-    let mut file = how.open(rt, path)?;
+    let mut file = open_at(rt, path)?;
     read_start(&mut file, bytes)
 }
 
-/// Whether a file is the kernel's own.
-fn is_of_kernel<R: Files>(rt: &R, path: &str) -> bool {
-    match (rt.metadata(path), rt.metadata(OF_KERNEL)) {
-        (Ok(file), Ok(kernel)) => file.dev() == kernel.dev(),
-        _ => false,
-    }
+/// A time in nanoseconds. None if it can't be read, or has more than 64 bits.
+fn nanos_of(read: io::Result<Duration>) -> Option<u64> {
+    u64::try_from(read.ok()?.as_nanos()).ok()
 }
 
-/// What the monotonic clock shows, in nanoseconds. None if it can't be read.
-fn clock_of<R: SystemClock>(rt: &R) -> Option<u64> {
-    u64::try_from(rt.monotonic().ok()?.as_nanos()).ok()
-}
-
-/// One look, in the open file, at how long the host has been up.
-fn look<R: SystemClock>(rt: &R, file: &File) -> Option<Lead> {
-    let mut bytes = [0; MOST];
-    let before = clock_of(rt)?;
-    let count = file.read_at(&mut bytes, 0).ok()?;
-    let after = clock_of(rt)?;
-    let uptime = uptime_in(bytes.get(..count)?)?;
+/// One look at how far the clock of the boot leads the monotonic one.
+fn look<R: HostClocks>(rt: &R) -> Option<Lead> {
+    let before = nanos_of(rt.read_clock(HostClock::Monotonic))?;
+    let boot = nanos_of(rt.read_boot())?;
+    let after = nanos_of(rt.read_clock(HostClock::Monotonic))?;
     let look = Look {
         before,
-        uptime,
+        boot,
         after,
     };
     look.lead()
 }
 
 /// The best of a few looks: the first that no delay makes wide, or else the last.
-fn look_well<R: SystemClock>(rt: &R, file: &File) -> Option<Lead> {
-    let mut lead = look(rt, file)?;
+fn look_well<R: HostClocks>(rt: &R) -> Option<Lead> {
+    let mut lead = look(rt)?;
     for _ in 1..LOOKS {
         if !is_wide(&lead) {
             return Some(lead);
         }
-        lead = look(rt, file)?;
+        lead = look(rt)?;
     }
     Some(lead)
 }
 
-/// Watches how far the time since the start of the host, sleep included, leads the clock. In contracts it is whether its last
-/// look failed.
+/// How long a look at both clocks may last without being repeated, in nanoseconds.
+const LONG_LOOK: u64 = 2_000;
+
+/// One look at `CLOCK_MONOTONIC` between two readings of the raw clock.
+fn slew_look<R: HostClocks>(rt: &R) -> Option<SlewLook> {
+    let before = nanos_of(rt.read_clock(HostClock::Raw))?;
+    let slewed = nanos_of(rt.read_clock(HostClock::Monotonic))?;
+    let after = nanos_of(rt.read_clock(HostClock::Raw))?;
+    Some(SlewLook {
+        before,
+        slewed,
+        after,
+    })
+}
+
+/// A look at `CLOCK_MONOTONIC` between two readings of the raw clock: the first of a few that lasts no longer than two
+/// microseconds, or else the last. None if a clock can't be read.
+pub fn look_at_slewed<R: HostClocks>(rt: &R) -> Option<SlewLook> {
+    let mut look = slew_look(rt)?;
+    for _ in 1..LOOKS {
+        if look.after.saturating_sub(look.before) <= LONG_LOOK {
+            return Some(look);
+        }
+        look = slew_look(rt)?;
+    }
+    Some(look)
+}
+
+/// Watches how far the time since the start of the host, sleep included, leads the monotonic clock. In contracts it is whether
+/// its last look failed.
 #[derive(Drop)]
 pub struct SleepWatch {
-    /// The kernel's file. It stays open, so no client can take its descriptor.
-    file: Option<File>,
     lead: Option<Lead>,
     /// Whether the last look failed.
     is_blind: bool,
@@ -119,31 +121,8 @@ impl SleepWatch {
         ensures seen { result ≡ false }
     {
         SleepWatch {
-            file: None,
             lead: None,
             is_blind: false,
-        }
-    }
-
-    /// Opens the file where it is not open, if it is the kernel's own.
-    fn open<R: Files<File = File>>(&mut self, rt: &R)
-        ensures same { self.new ≡ self.old }
-    {
-        if self.file.is_none() && is_of_kernel(rt, UPTIME) {
-            let mut how = OpenOptions::new();
-            how.read(true);
-            self.file = how.open(rt, UPTIME).ok();
-        }
-    }
-
-    /// How far the time since the start leads the clock now. None where that can't be seen.
-    fn lead<R: SystemClock + Files<File = File>>(&mut self, rt: &R) -> Option<Lead>
-        ensures same { self.new ≡ self.old }
-    {
-        self.open(rt);
-        match &self.file {
-            Some(file) => look_well(rt, file),
-            None => None,
         }
     }
 
@@ -155,11 +134,11 @@ impl SleepWatch {
     }
 
     /// Looks whether the host has slept since the last look that saw it. A look that fails changes nothing of what is known.
-    pub fn look<R: SystemClock + Files<File = File>>(&mut self, rt: &R) -> Sleep
+    pub fn look<R: HostClocks>(&mut self, rt: &R) -> Sleep
         ensures said { result ≡ Unseen → (self.old ≡ false) × (self.new ≡ true) }
         ensures turned { self.old ≡ false → self.new ≡ true → result ≡ Unseen }
     {
-        let Some(later) = self.lead(rt) else {
+        let Some(later) = look_well(rt) else {
             if self.is_blind {
                 return Sleep::Awake;
             }

@@ -1,24 +1,19 @@
 //! How long the host slept, by the difference of two clocks.
 
 ghost use Rattle.std.specs.Prelude.{◌≡◌, ◌+◌, ◌-◌, ◌≤◌, ◌<◌, ℕ, MatchOption, Option};
-ghost use Rattle.tt_health.specs.Sleep.{IsAtLook, Leads, is_wide as is_wide_lead, lead_of, narrowed as narrowed_leads, slept_between as slept_between_leads};
-ghost use Rattle.tt_health.specs.declared.sleeps.Lead.{Lead as TheLead};
-
-use tt_span::MAX_TIME;
-
-/// `/proc/uptime` shows `CLOCK_BOOTTIME` rounded down to this many nanoseconds.
-const UPTIME_STEP: u64 = 10_000_000;
+ghost use Rattle.tt_host.specs.Sleep.{IsAtLook, Leads, is_wide as is_wide_lead, lead_of, narrowed as narrowed_leads, slept_between as slept_between_leads};
+ghost use Rattle.tt_host.specs.declared.sleeps.Lead.{Lead as TheLead};
 
 /// A lead is wide if its bounds are farther apart than this, in nanoseconds.
-const WIDE_LEAD: u64 = 15_000_000;
+const WIDE_LEAD: u64 = 400_000;
 
-/// One look at `/proc/uptime`, between two readings of `CLOCK_MONOTONIC`. All are in nanoseconds.
+/// One look at `CLOCK_BOOTTIME`, between two readings of `CLOCK_MONOTONIC`. All are in nanoseconds.
 #[derive(Clone, Copy)]
 pub struct Look {
     /// What the monotonic clock showed before the look.
     pub before: u64,
-    /// The uptime that was shown: `CLOCK_BOOTTIME`, rounded down to 10 ms.
-    pub uptime: u64,
+    /// What the clock of the boot showed.
+    pub boot: u64,
     /// What the monotonic clock showed after the look.
     pub after: u64,
 }
@@ -31,19 +26,18 @@ pub struct Lead {
 }
 
 impl Look {
-    /// By how much the clock of the boot led the monotonic one at this look. None where no two readings of them fit it:
-    /// `before` is above `after`, or the uptime lies more than 10 ms below `before`; and where the uptime is above
-    /// [`MAX_TIME`].
+    /// By how much the clock of the boot led the monotonic one at this look. None where no reading of the monotonic one fits
+    /// it: `before` is above `after`, or above `boot`.
     pub fn lead(&self) -> Option<Lead>
         ensures value { result ≡ lead_of self.now }
-        ensures bounds { (boot monotonic : ℕ) → IsAtLook self.now boot monotonic → MatchOption result ⊥ (λ lead. Leads lead (boot - monotonic)) }
+        ensures bounds { (monotonic : ℕ) → IsAtLook self.now monotonic → MatchOption result ⊥ (λ lead. Leads lead (self.now.boot - monotonic)) }
     {
-        if self.before > self.after || self.uptime > MAX_TIME {
+        if self.before > self.after {
             return None;
         }
-        let most = (self.uptime + UPTIME_STEP).checked_sub(self.before)?;
+        let most = self.boot.checked_sub(self.before)?;
         Some(Lead {
-            least: self.uptime.saturating_sub(self.after),
+            least: self.boot.saturating_sub(self.after),
             most,
         })
     }
@@ -71,7 +65,7 @@ pub fn narrowed(earlier: &Lead, later: &Lead) -> Lead
     }
 }
 
-/// Whether the bounds are more than 15 ms apart: then the look is worth repeating.
+/// Whether the bounds are more than 0.4 ms apart: then the look is worth repeating.
 pub fn is_wide(lead: &Lead) -> bool
     ensures value { result ≡ is_wide_lead lead.now }
 {

@@ -1,7 +1,7 @@
 //! What the host tells a guest of its clock.
 
 ghost use Rattle.std.specs.Prelude.{◌≡◌, ◌≤◌, length};
-ghost use Rattle.tt_health.specs.Guest.{disruptions_of, kind_of, marker_of, version_of};
+ghost use Rattle.tt_host.specs.Guest.{disruptions_of, kind_of, marker_of, version_of};
 
 /// The first number of a page of vmclock: `VCLK`.
 const MAGIC: u32 = 0x4b4c_4356;

@@ -1,0 +1,4 @@
+pub mod Clocks
+pub mod Sleep
+pub mod Slew
+pub mod Guest
