@@ -5,7 +5,6 @@ use Rattle.std.proofs.lemmas.Grind.{same_number_lists}
 use Rattle.tt_shared.specs.Layout.{slot_len}
 use Rattle.tt_shared.specs.declared.slots.SharedSpan.{SharedSpan}
 use Rattle.tt_shared.specs.Slot.{IsShared, IsSlotOf, slot_of}
-use Rattle.tt_shared.specs.Index.{index_at}
 use Rattle.tt_shared.specs.Writing.{index_word}
 use Rattle.tt_shared.specs.Looking.{word_of}
 use Rattle.tt_shared.specs.Seeing.{MaySee, IsSeen}

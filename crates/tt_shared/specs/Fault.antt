@@ -17,6 +17,7 @@ shared_number_of shared.BadFile = 1702
 shared_number_of shared.BadSlot = 1703
 shared_number_of shared.Contended = 1704
 shared_number_of shared.TooWide = 1708
+shared_number_of shared.NoSlewed = 1710
 
 -- the number of each reason why nothing was written
 abbrev pub write_number_of : WriteFault → ℕ

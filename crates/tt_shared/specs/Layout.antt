@@ -11,7 +11,7 @@ slot_len = 128
 
 -- how much of a slot has numbers; zeros follow
 abbrev pub used_len : ℕ
-used_len = 72
+used_len = 120
 
 -- the length of the file
 abbrev pub file_len : ℕ

@@ -24,11 +24,13 @@ pub enum SharedFault {
     Contended,
     #[error("the clock is past the last reading at which the publication may be used")]
     TooWide,
+    #[error("the file gives nothing by CLOCK_MONOTONIC")]
+    NoSlewed,
 }
 
 impl SharedFault {
     /// The fault's number: 801 for `Nothing`, 802 for `ClockBack`, 803 for `ClockFailed`, 1701 for `CannotOpen`,
-    /// 1702 for `BadFile`, 1703 for `BadSlot`, 1704 for `Contended`, 1708 for `TooWide`.
+    /// 1702 for `BadFile`, 1703 for `BadSlot`, 1704 for `Contended`, 1708 for `TooWide`, 1710 for `NoSlewed`.
     pub fn number(&self) -> u16
         ensures { result ≡ shared_number_of self.now }
     {
@@ -41,6 +43,7 @@ impl SharedFault {
             SharedFault::BadSlot => 1703,
             SharedFault::Contended => 1704,
             SharedFault::TooWide => 1708,
+            SharedFault::NoSlewed => 1710,
         }
     }
 }

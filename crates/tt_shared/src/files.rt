@@ -3,7 +3,7 @@
 ghost use Rattle.std.specs.Prelude.{◌≡◌, ◌⊎◌, ◌≤◌, false, length, IfOk, IfErr};
 
 use crate::faults::{PlaceFault, SharedFault, WriteFault};
-use crate::heads::{BOOT_LEN, decode_head, encode_head};
+use crate::heads::{BOOT_LEN, Head, decode_head, encode_head};
 use crate::holding::{Adoption, Held, Seen, adoption_of, still_there};
 use crate::host::is_host_clock;
 use crate::layout::{FILE_LEN, HEAD_LEN, SLOT_LEN};
@@ -15,6 +15,7 @@ use std::fs::{self, DirBuilder, File, Files, OpenFile, OpenOptions, TryLockError
 use std::io::{self, Error, ErrorKind, Read};
 use std::os::unix::fs::{DirBuilderExt, FileExt};
 use tt_files::{Facts, create_new, facts_of, is_same_file, link_facts_at, lock_at, open_regular};
+use tt_host::{HostClock, read_start};
 
 /// Where Linux names the boot of the machine.
 const BOOT_PATH: &str = "/proc/sys/kernel/random/boot_id";
@@ -79,29 +80,19 @@ impl<'a, R: Files<File = File>> Place for FilePlace<'a, R> {
     }
 }
 
+/// Which shared files a writer may go on in: those of this boot and by this clock.
+#[derive(Clone, Copy)]
+struct Kind {
+    boot: [u8; BOOT_LEN],
+    clock: HostClock,
+}
+
 /// The name of this boot of the machine.
 fn boot_name<R: Files<File = File>>(rt: &R) -> io::Result<[u8; BOOT_LEN]> {
     let mut file = File::open(rt, BOOT_PATH)?;
     let mut name = [0; BOOT_LEN];
     file.read_exact(&mut name)?;
     Ok(name)
-}
-
-/// Reads the first bytes of a file, as many as there is room for, or all that it has: one read may give fewer. Answers how
-/// many.
-pub fn read_start(file: &mut File, bytes: &mut [u8]) -> io::Result<usize>
-    ensures within { IfOk result (λ count. count ≤ length bytes.new) }
-    ensures len { length bytes.new ≡ length bytes.old }
-{
-    let mut count = 0;
-    for _ in 0..bytes.len() {
-        let more = file.read(&mut bytes[count..])?;
-        if more == 0 {
-            break;
-        }
-        count += more;
-    }
-    Ok(count)
 }
 
 /// Whether the monotonic clock of this process is that of the host. It is where the kernel has no time namespaces, and so
@@ -121,9 +112,9 @@ fn has_host_clock<R: Files<File = File>>(rt: &R) -> io::Result<bool> {
     Ok(is_host_clock(&text[..count]))
 }
 
-/// The index of an open file. None if it is not a shared file of this boot. This fails where its length or its head can't
-/// be read.
-fn index_of_file(file: &File, boot: &[u8; BOOT_LEN]) -> io::Result<Option<[u8; 8]>> {
+/// What the head of an open file says. None if it is not a shared file of this boot. This fails where its length or its
+/// head can't be read.
+fn head_of_file(file: &File, boot: &[u8; BOOT_LEN]) -> io::Result<Option<Head>> {
     if file.metadata()?.len() != FILE_LEN as u64 {
         return Ok(None);
     }
@@ -132,12 +123,21 @@ fn index_of_file(file: &File, boot: &[u8; BOOT_LEN]) -> io::Result<Option<[u8; 8
     Ok(decode_head(&head, boot).ok())
 }
 
-/// Opens the file that was found, if it is a shared file of this boot. None where a new one is to take its place.
+/// The index of an open file. None if it is not a shared file of this boot and by this clock. This fails where its length or
+/// its head can't be read.
+fn index_of_file(file: &File, of: &Kind) -> io::Result<Option<[u8; 8]>> {
+    match head_of_file(file, &of.boot)? {
+        Some(head) => Ok(head.index_by(of.clock)),
+        None => Ok(None),
+    }
+}
+
+/// Opens the file that was found, if it is a shared file of this kind. None where a new one is to take its place.
 fn adopted_at<R: Files<File = File>>(
     rt: &R,
     path: &str,
     found: &Facts,
-    boot: &[u8; BOOT_LEN],
+    of: &Kind,
 ) -> io::Result<Option<File>> {
     let mut how = OpenOptions::new();
     how.read(true).write(true);
@@ -153,7 +153,7 @@ fn adopted_at<R: Files<File = File>>(
     if !is_same_file(found, &facts_of(&file)?) {
         return Ok(None);
     }
-    match index_of_file(&file, boot) {
+    match index_of_file(&file, of) {
         Ok(Some(_)) => Ok(Some(file)),
         _ => Ok(None),
     }
@@ -164,11 +164,11 @@ fn found_at<R: Files<File = File>>(
     rt: &R,
     path: &str,
     owner: u32,
-    boot: &[u8; BOOT_LEN],
+    of: &Kind,
 ) -> io::Result<Option<File>> {
     let found = link_facts_at(rt, path)?;
     match (adoption_of(found, owner), found) {
-        (Adoption::Adopt, Some(facts)) => adopted_at(rt, path, &facts, boot),
+        (Adoption::Adopt, Some(facts)) => adopted_at(rt, path, &facts, of),
         (Adoption::Refuse, _) => Err(Error::from(ErrorKind::InvalidInput)),
         _ => Ok(None),
     }
@@ -179,10 +179,10 @@ fn install<R: Files<File = File>>(
     rt: &R,
     paths: &Paths,
     draft: File,
-    boot: &[u8; BOOT_LEN],
+    of: &Kind,
 ) -> io::Result<File> {
     let mut bytes = [0; FILE_LEN];
-    bytes[..HEAD_LEN].copy_from_slice(&encode_head(&[0; 8], boot));
+    bytes[..HEAD_LEN].copy_from_slice(&encode_head(&[0; 8], &of.boot, of.clock));
     FileExt::write_all_at(&draft, &bytes, 0)?;
     draft.sync_all()?;
     fs::rename(rt, paths.draft.as_str(), paths.file.as_str())?;
@@ -194,23 +194,19 @@ fn chosen_at<R: Files<File = File>>(
     rt: &R,
     paths: &Paths,
     draft: File,
-    boot: &[u8; BOOT_LEN],
+    of: &Kind,
 ) -> io::Result<File> {
     let owner = facts_of(&draft)?.owner;
-    match found_at(rt, paths.file.as_str(), owner, boot)? {
+    match found_at(rt, paths.file.as_str(), owner, of)? {
         Some(file) => Ok(file),
-        None => install(rt, paths, draft, boot),
+        None => install(rt, paths, draft, of),
     }
 }
 
 /// The file that is there, or a new one. No draft is left.
-fn file_at<R: Files<File = File>>(
-    rt: &R,
-    paths: &Paths,
-    boot: &[u8; BOOT_LEN],
-) -> io::Result<File> {
+fn file_at<R: Files<File = File>>(rt: &R, paths: &Paths, of: &Kind) -> io::Result<File> {
     let draft = create_new(rt, paths.draft.as_str(), 0o644)?;
-    let chosen = chosen_at(rt, paths, draft, boot);
+    let chosen = chosen_at(rt, paths, draft, of);
     // Where the draft took the place of the file, nothing is left to remove.
     let _ = fs::remove_file(rt, paths.draft.as_str());
     chosen
@@ -274,12 +270,12 @@ fn place_of<'a, R: Files<File = File>>(
     if place.is_there() { Some(place) } else { None }
 }
 
-/// Opens the file `name` in this folder for writing. A missing folder is made (mode 0755). The writer locks `name.lock`
-/// (mode 0600) as long as it lives. A shared file of this boot stays as it is, and publications go on behind its last
-/// one, so readers that have mapped it go on: if it is a regular file without another name, is owned by whom a new file is
-/// owned by, and may be written by nobody else. Otherwise a new file (mode 0644) is made as `name.new`, synced, and renamed
-/// in the place of a file or symlink. A file of version 1 is no shared file here, so it is replaced too: who has it mapped
-/// sees no further publication in it.
+/// Opens the file `name` in this folder for writing, for publications by this clock. A missing folder is made (mode 0755).
+/// The writer locks `name.lock` (mode 0600) as long as it lives. A shared file of this boot and by this clock stays as it
+/// is, and publications go on behind its last one, so readers that have mapped it go on: if it is a regular file without
+/// another name, is owned by whom a new file is owned by, and may be written by nobody else. Otherwise a new file (mode
+/// 0644) is made as `name.new`, synced, and renamed in the place of a file or symlink. So a file by the other clock is
+/// replaced, and one of version 1 or 2, which is no shared file here: who has it mapped sees no further publication in it.
 ///
 /// Refuses with 1702 `OtherClock` where the monotonic clock of this process is not that of the host, since it runs in a
 /// time namespace that shifts it: nothing is made or locked then. Refuses with 1707 `Locked` where another process writes
@@ -292,6 +288,7 @@ pub fn open_file<'a, R: Files<File = File>>(
     alloc: Global,
     folder: &str,
     name: &str,
+    clock: HostClock,
 ) -> Result<SharedTeller<FilePlace<'a, R>>, WriteFault>
     ensures whole { IfOk result (λ teller. teller.broken ≡ false) }
     ensures refused { IfErr result (λ fault. (fault ≡ WriteFault.OtherClock) ⊎ ((fault ≡ WriteFault.Locked) ⊎ (fault ≡ WriteFault.CannotOpen))) }
@@ -311,10 +308,11 @@ pub fn open_file<'a, R: Files<File = File>>(
     let Ok(boot) = boot_name(rt) else {
         return Err(WriteFault::CannotOpen);
     };
-    let Ok(file) = file_at(rt, &paths, &boot) else {
+    let of = Kind { boot, clock };
+    let Ok(file) = file_at(rt, &paths, &of) else {
         return Err(WriteFault::CannotOpen);
     };
-    let Ok(Some(index)) = index_of_file(&file, &boot) else {
+    let Ok(Some(index)) = index_of_file(&file, &of) else {
         return Err(WriteFault::CannotOpen);
     };
     match place_of(rt, paths, file, lock) {
@@ -328,6 +326,8 @@ pub fn open_file<'a, R: Files<File = File>>(
 #[derive(Drop)]
 pub struct FileView {
     file: File,
+    /// The clock of the file.
+    pub(crate) clock: HostClock,
 }
 
 impl ReadPlace for FileView {
@@ -357,8 +357,8 @@ fn fault_of(kind: ErrorKind) -> SharedFault
     }
 }
 
-/// Opens the file at this path for reading. The reader goes on if the writer dies and another one goes on. If the file
-/// was made anew, it has to be opened again. If it was truncated, a reading is refused with 1701 `CannotOpen`, or with 801
+/// Opens the file at this path for reading, by whichever clock it is: [`SharedReader::clock`] tells it. The reader goes on
+/// if the writer dies and another one goes on. If the file was made anew, it has to be opened again. If it was truncated, a reading is refused with 1701 `CannotOpen`, or with 801
 /// or 1703 where it was made longer again.
 ///
 /// Refuses with 1701 `CannotOpen` where the file, the name of the boot or the offsets of the clocks of this process can't
@@ -385,8 +385,11 @@ pub fn open_view<R: Files<File = File>>(
         Ok(file) => file,
         Err(error) => return Err(fault_of(error.kind())),
     };
-    match index_of_file(&file, &boot) {
-        Ok(Some(_)) => Ok(SharedReader::new(FileView { file })),
+    match head_of_file(&file, &boot) {
+        Ok(Some(head)) => Ok(SharedReader::new(FileView {
+            file,
+            clock: head.clock,
+        })),
         Ok(None) => Err(SharedFault::BadFile),
         Err(_) => Err(SharedFault::CannotOpen),
     }

@@ -10,7 +10,7 @@ pub const HEAD_LEN: usize = 64;
 pub const SLOT_LEN: usize = 128;
 
 /// How many bytes of a slot have numbers. Zeros follow.
-pub const USED_LEN: usize = 72;
+pub const USED_LEN: usize = 120;
 
 /// The length of a shared file, in bytes.
 pub const FILE_LEN: usize = HEAD_LEN + 2 * SLOT_LEN;

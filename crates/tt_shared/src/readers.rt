@@ -9,10 +9,12 @@ ghost use Rattle.tt_shared.specs.Slot.{IsSlotOf};
 ghost use Rattle.tt_shared.specs.Looking.{word_of, IsNamedBy, Tries, GivesUp, SeesNothing, Fails, EndsBy, Finds};
 
 use crate::faults::SharedFault;
+use crate::files::FileView;
 use crate::indexes::count_of;
 use crate::layout::{SLOT_LEN, slot_place};
 use crate::places::ReadPlace;
 use crate::slots::decode;
+use tt_host::HostClock;
 use tt_publish::{Clock, Reading};
 
 /// How often a reader tries to copy a slot.
@@ -98,9 +100,19 @@ impl<P> SharedReader<P> {
     }
 }
 
+impl SharedReader<FileView> {
+    /// The clock by which the file is read, as its head names it.
+    pub fn clock(&self) -> HostClock
+        ensures { result ≡ self.now.place.clock }
+    {
+        self.place.clock
+    }
+}
+
 impl<P: ReadPlace> SharedReader<P> {
-    /// The reading of the last publication. It copies the slot until the looks at the index before and after the copy
-    /// show the same. Then it reads the clock. So the publication was made before the clock was read.
+    /// The reading of the last publication, by its first base: `clock` has to be the clock of the file. It copies the slot
+    /// until the looks at the index before and after the copy show the same. Then it reads the clock. So the publication
+    /// was made before the clock was read.
     ///
     /// Refuses, in this order: 801 `Nothing` where nothing was published, 1701 `CannotOpen` where the file could not be
     /// read, 1704 `Contended` where each of 1,000 tries met another publication, 1703 `BadSlot` where no daemon wrote

@@ -1,21 +1,24 @@
 //! Publications as the bytes of a slot.
 
-ghost use Rattle.std.specs.Prelude.{◌≡◌, ◌≢◌, ◌+◌, ◌<◌, ◌≤◌, ◌⊎◌, List, ℕ, length, if◌then◌else◌, Ok, Err, IfOk, IfErr, nat_lt, false};
+ghost use Rattle.std.specs.Prelude.{◌≡◌, ◌≢◌, ◌+◌, ◌<◌, ◌≤◌, ◌⊎◌, List, ℕ, length, if◌then◌else◌, Ok, Err, IfOk, IfErr, false};
 ghost use Rattle.tt_publish.specs.Reading.{CanBeReadAt, reading_at};
 ghost use Rattle.tt_shared.specs.declared.faults.SharedFault.{SharedFault};
-ghost use Rattle.tt_shared.specs.declared.faults.SharedFault.TheVariants.{Nothing, ClockBack, BadSlot, TooWide};
+ghost use Rattle.tt_shared.specs.declared.faults.SharedFault.TheVariants.{Nothing, ClockBack, BadSlot, TooWide, NoSlewed};
 ghost use Rattle.tt_shared.specs.declared.slots.SharedSpan.{SharedSpan};
 ghost use Rattle.tt_shared.specs.Layout.{slot_len};
-ghost use Rattle.tt_shared.specs.Slot.{IsShared, IsSlotOf, slot_of};
-ghost use Rattle.tt_span.specs.Drift.{max_drift};
-ghost use Rattle.tt_shared.specs.Reading.{number_at as number_at_place, ends_at, are_no_span, is_padded as is_padded_slot, is_other as is_other_slot, read_of};
+ghost use Rattle.tt_shared.specs.Slot.{IsShared, IsSlotOf, base_of, slot_of};
+ghost use Rattle.tt_shared.specs.Reading.{number_at as number_at_place, base_at, slewed_at, is_out, is_padded as is_padded_slot, is_other as is_other_slot, read_of};
 
+use crate::bases::{Base, SlewedBase, read_until};
 use crate::faults::SharedFault;
 use crate::layout::{SLOT_LEN, USED_LEN};
 use tt_publish::{FusedSpan, Reading};
 use tt_span::{Drift, MAX_DRIFT, MAX_TIME, Span};
 
-/// A publication as other processes read it: a fused span, and what a reader needs to age it.
+/// The length of a second base, in bytes.
+const BASE_LEN: usize = 48;
+
+/// A publication as other processes read it: a fused span by the clock of the file, and what a reader needs to age it.
 #[derive(Clone, Copy, Debug, PartialEq, Eq)]
 pub struct SharedSpan {
     /// The fused span, and the clock reading at which it was made, in nanoseconds.
@@ -32,6 +35,22 @@ pub struct SharedSpan {
     pub number: u64,
     /// The drift of the machine's clock.
     pub drift: Drift,
+    /// The same by `CLOCK_MONOTONIC`, or none.
+    pub slewed: SlewedBase,
+}
+
+/// The bytes of a second base.
+fn encode_base(base: &SlewedBase) -> [u8; BASE_LEN]
+    ensures { result ≡ base_of base.now }
+{
+    let mut bytes = [0; BASE_LEN];
+    bytes[..8].copy_from_slice(&base.fused.clock.to_le_bytes());
+    bytes[8..16].copy_from_slice(&base.fused.span.lo().to_le_bytes());
+    bytes[16..24].copy_from_slice(&base.fused.span.hi().to_le_bytes());
+    bytes[24..32].copy_from_slice(&u64::from(base.drift.ppm()).to_le_bytes());
+    bytes[32..40].copy_from_slice(&base.valid_until.to_le_bytes());
+    bytes[40..].copy_from_slice(&base.usable_until.to_le_bytes());
+    bytes
 }
 
 /// The bytes of the slot of a publication, under the index of its count as a little-endian number. Never refuses.
@@ -48,7 +67,8 @@ pub fn encode(index: u64, shared: &SharedSpan) -> [u8; SLOT_LEN]
     bytes[40..48].copy_from_slice(&shared.epoch.to_le_bytes());
     bytes[48..56].copy_from_slice(&shared.number.to_le_bytes());
     bytes[56..64].copy_from_slice(&u64::from(shared.drift.ppm()).to_le_bytes());
-    bytes[64..USED_LEN].copy_from_slice(&shared.usable_until.to_le_bytes());
+    bytes[64..72].copy_from_slice(&shared.usable_until.to_le_bytes());
+    bytes[72..USED_LEN].copy_from_slice(&encode_base(&shared.slewed));
     bytes
 }
 
@@ -71,35 +91,52 @@ fn is_padded(bytes: &[u8]) -> bool
     bytes[USED_LEN..] == [0; SLOT_LEN - USED_LEN]
 }
 
-/// Whether the bytes are not a slot of the index, or their clock is out of range.
+/// Whether the bytes are not a slot of the index.
 fn is_other(index: u64, bytes: &[u8]) -> bool
     ensures value { result ≡ is_other_slot index bytes.now }
     ensures len { result ≡ false → length bytes.now ≡ slot_len }
 {
-    bytes.len() != SLOT_LEN
-        || !is_padded(bytes)
-        || number_at(bytes, 0) != index
-        || number_at(bytes, 8) > MAX_TIME
+    bytes.len() != SLOT_LEN || !is_padded(bytes) || number_at(bytes, 0) != index
 }
 
-/// The span at its place, if the two ends are a span.
-fn span_at(bytes: &[u8]) -> Result<Span, SharedFault>
-    requires { length bytes.now ≡ slot_len }
-    ensures { result ≡ (if are_no_span (ends_at bytes.now) then Err BadSlot else Ok (ends_at bytes.now)) }
+/// The base whose clock stands at place `clock_at`, with the two ends of its span behind it, and whose drift stands at
+/// place `drift_at`, if its numbers are in range.
+fn base_in(bytes: &[u8], clock_at: usize, drift_at: usize) -> Result<Base, SharedFault>
+    requires len { length bytes.now ≡ slot_len }
+    requires clock_in { clock_at + 24 ≤ slot_len }
+    requires drift_in { drift_at + 8 ≤ slot_len }
+    ensures { result ≡ (if is_out (base_at bytes.now clock_at drift_at) then Err BadSlot else Ok (base_at bytes.now clock_at drift_at)) }
 {
-    Span::new(number_at(bytes, 16), number_at(bytes, 24)).map_err(|_| SharedFault::BadSlot)
-}
-
-/// The drift at its place, if the number is one.
-fn drift_at(bytes: &[u8]) -> Result<Drift, SharedFault>
-    requires { length bytes.now ≡ slot_len }
-    ensures { result ≡ (if nat_lt max_drift (number_at_place bytes.now 56) then Err BadSlot else Ok (number_at_place bytes.now 56)) }
-{
-    let number = number_at(bytes, 56);
-    if number > u64::from(MAX_DRIFT) {
+    let clock = number_at(bytes, clock_at);
+    let drift = number_at(bytes, drift_at);
+    if clock > MAX_TIME || drift > u64::from(MAX_DRIFT) {
         return Err(SharedFault::BadSlot);
     }
-    Drift::new(number as u32).ok_or(SharedFault::BadSlot)
+    let ends = Span::new(
+        number_at(bytes, clock_at + 8),
+        number_at(bytes, clock_at + 16),
+    );
+    let (Ok(span), Some(drift)) = (ends, Drift::new(drift as u32)) else {
+        return Err(SharedFault::BadSlot);
+    };
+    Ok(Base {
+        fused: FusedSpan { clock, span },
+        drift,
+    })
+}
+
+/// The second base at its place, if its numbers are in range.
+fn slewed_in(bytes: &[u8]) -> Result<SlewedBase, SharedFault>
+    requires { length bytes.now ≡ slot_len }
+    ensures { result ≡ (if is_out (base_at bytes.now 72 96) then Err BadSlot else Ok (slewed_at bytes.now)) }
+{
+    let base = base_in(bytes, 72, 96)?;
+    Ok(SlewedBase {
+        fused: base.fused,
+        drift: base.drift,
+        valid_until: number_at(bytes, 104),
+        usable_until: number_at(bytes, 112),
+    })
 }
 
 /// What the bytes of a slot say, if they are the slot of `index`.
@@ -110,18 +147,16 @@ fn slot_at(index: u64, bytes: &[u8]) -> Result<SharedSpan, SharedFault>
     if is_other(index, bytes) {
         return Err(SharedFault::BadSlot);
     }
-    let span = span_at(bytes)?;
-    let drift = drift_at(bytes)?;
+    let first = base_in(bytes, 8, 56)?;
+    let slewed = slewed_in(bytes)?;
     Ok(SharedSpan {
-        fused: FusedSpan {
-            clock: number_at(bytes, 8),
-            span,
-        },
+        fused: first.fused,
         valid_until: number_at(bytes, 32),
         usable_until: number_at(bytes, 64),
         epoch: number_at(bytes, 40),
         number: number_at(bytes, 48),
-        drift,
+        drift: first.drift,
+        slewed,
     })
 }
 
@@ -147,13 +182,7 @@ impl SharedSpan {
         ensures refused { IfErr result (λ fault. ((fault ≡ ClockBack) × (CanBeReadAt self.now.fused clock → ⊥))
             ⊎ ((fault ≡ TooWide) × CanBeReadAt self.now.fused clock × (self.now.usable_until < clock))) }
     {
-        let Ok(reading) = self.fused.read_at(self.drift, clock) else {
-            return Err(SharedFault::ClockBack);
-        };
-        if clock > self.usable_until {
-            return Err(SharedFault::TooWide);
-        }
-        Ok(reading)
+        read_until(&self.fused, self.drift, self.usable_until, clock)
     }
 }
 
@@ -183,6 +212,39 @@ pub fn read(index: u64, bytes: &[u8], clock: u64) -> Result<Reading, SharedFault
         return Err(SharedFault::Nothing);
     }
     shared.read_at(clock)
+}
+
+/// The reading of the second base of the publication in these bytes of a slot, when `CLOCK_MONOTONIC` shows `clock`, in
+/// nanoseconds: its span, aged by its own drift over what that clock has gone on since. Refuses, in this order: 801
+/// `Nothing` where the index is 0; 1703 `BadSlot` where the bytes are not the slot of a publication under `index`; 801
+/// `Nothing` where its `usable_until` is 0; 1710 `NoSlewed` where that of its second base is 0, since there is none; 802
+/// `ClockBack` where `clock` is below the clock of the second base, or above the greatest time; 1708 `TooWide` where it is
+/// above the `usable_until` of the second base.
+pub fn read_slewed(index: u64, bytes: &[u8], clock: u64) -> Result<Reading, SharedFault>
+    ensures nothing { index ≡ 0 → result ≡ Err Nothing }
+    // The slot of a publication gives exactly what its second base gives.
+    ensures exact { (p : SharedSpan) → IsSlotOf index p bytes.now → index ≢ 0 → p.usable_until ≢ 0 → p.slewed.usable_until ≢ 0 →
+        (CanBeReadAt p.slewed.fused clock → clock ≤ p.slewed.usable_until → result ≡ Ok (reading_at p.slewed.drift p.slewed.fused clock))
+        × (CanBeReadAt p.slewed.fused clock → p.slewed.usable_until < clock → result ≡ Err TooWide)
+        × ((CanBeReadAt p.slewed.fused clock → ⊥) → result ≡ Err ClockBack) }
+    ensures ended { (p : SharedSpan) → IsSlotOf index p bytes.now → p.usable_until ≡ 0 → result ≡ Err Nothing }
+    ensures none { (p : SharedSpan) → IsSlotOf index p bytes.now → index ≢ 0 → p.usable_until ≢ 0 → p.slewed.usable_until ≡ 0 → result ≡ Err NoSlewed }
+    // Nothing else gives a reading.
+    ensures sound { IfOk result (λ reading. (p : SharedSpan) × IsSlotOf index p bytes.now × (p.usable_until ≢ 0) × (p.slewed.usable_until ≢ 0)
+        × CanBeReadAt p.slewed.fused clock × (clock ≤ p.slewed.usable_until) × (reading ≡ reading_at p.slewed.drift p.slewed.fused clock)) }
+    ensures bad { ((p : SharedSpan) → IsSlotOf index p bytes.now → ⊥) → index ≢ 0 → result ≡ Err BadSlot }
+{
+    if index == 0 {
+        return Err(SharedFault::Nothing);
+    }
+    let shared = decode(index, bytes)?;
+    if shared.usable_until == 0 {
+        return Err(SharedFault::Nothing);
+    }
+    if shared.slewed.usable_until == 0 {
+        return Err(SharedFault::NoSlewed);
+    }
+    shared.slewed.read_at(clock)
 }
 
 /// Two publications in range with the same slot are the same.

@@ -9,6 +9,7 @@ use Rattle.tt_stream.specs.Counts.{HasFailed}
 use Rattle.tt_shared.specs.declared.slots.SharedSpan.{SharedSpan}
 use Rattle.tt_shared.specs.declared.faults.WriteFault.{WriteFault}
 use Rattle.tt_shared.specs.Fault.{write_number_of}
+use Rattle.tt_shared.specs.Slot.{no_base}
 use Rattle.tt_shared.specs.Writing.{Write, TellerState, Publishes, StopsShort}
 use Rattle.tt_status.specs.declared.lines.LogEvent.{LogEvent}
 use Rattle.tt_status.specs.declared.lines.LogEvent.TheVariants.{SharingEnded, SharingResumed}
@@ -33,7 +34,7 @@ usable_until clock span ppm most =
     if nat_eq most (2 ^ 64 - 1) then 2 ^ 64 - 1
     else (if nat_lt most (span.hi - span.lo) then clock - 1 else min (clock + growing_time ((most - (span.hi - span.lo)) / 2) ppm) (2 ^ 64 - 1))
 
--- a publication as other processes read it: it is fresh for three periods after the oldest answer that it needed
+-- a publication as other processes read it: it is fresh for three periods after the oldest answer that it needed, and has no second base yet
 abbrev pub shared_of : Publication → ℕ → ℕ → ℕ → Pauses → ℕ → ℕ → SharedSpan
 shared_of p epoch number needed pauses drift most = record {
   fused = fused_span_of p;
@@ -42,12 +43,21 @@ shared_of p epoch number needed pauses drift most = record {
   number = number;
   drift = drift;
   usable_until = usable_until p.clock p.span drift most;
+  slewed = no_base;
 }
+
+-- the same without its second base
+abbrev pub without_slewed : SharedSpan → SharedSpan
+without_slewed p = record p { slewed = no_base }
+
+-- a publication after its machine ended in order at this clock reading: by neither base it is fresh any more
+abbrev pub ended_at : SharedSpan → ℕ → SharedSpan
+ended_at p now = record p { valid_until = now; slewed = record p.slewed { valid_until = 0 } }
 
 -- what is shared once an assumption is broken: nothing is published
 abbrev pub withdrawn : ℕ → ℕ → ℕ → SharedSpan
 withdrawn epoch number drift =
-    record { fused = record { clock = 0; span = whole }; valid_until = 0; epoch = epoch; number = number; drift = drift; usable_until = 0 }
+    record { fused = record { clock = 0; span = whole }; valid_until = 0; epoch = epoch; number = number; drift = drift; usable_until = 0; slewed = no_base }
 
 -- the pause before the file is tried again: a round's at first, then twice the last one, and at most thirty seconds
 abbrev pub retry_after : ℕ → ℕ → ℕ

@@ -8,7 +8,8 @@
 //! ```text
 //! let mut share = Share::new(rt, alloc, Some(path));
 //! let event = share.begin(poll, now);                                  // at the start
-//! let tried = share.put(shared_of(&fused, number, needed, &terms), poll, now);   // after each publication
+//! let shared = with_slewed(&shared_of(&fused, number, needed, &terms), &look, slew, most);
+//! let tried = share.put(shared, poll, now);                      // after each publication
 //! let ended = share.put(ended_at(&last, now), poll, now);              // when the machine ends in order
 //! let nothing = share.put(withdrawn(epoch, number, drift), poll, now); // once an assumption is broken
 //! let is_late = hangs(since, now);                               // by another thread, while a call lasts
@@ -17,16 +18,18 @@
 //!
 //! Proved are the values, and the writing of them over any place ([`Sharing`]): where it answers that a publication was
 //! written, the place went on by its two writes and by nothing else, and a place that is open is closed for a cause alone.
-//! What another process reads is what the machine published ([`shared_laws`]).
+//! What another process reads is what the machine published ([`shared_laws`]), by the second base too ([`slewed_laws`]).
 //!
-//! - `shares`: what is shared of a publication, and until when. `sharing`: the file, as long as it can be written.
-//!   `tries`: when a try hangs.
+//! - `shares`: what is shared of a publication, and until when. `bases`: the same by `CLOCK_MONOTONIC`. `sharing`: the
+//!   file, as long as it can be written. `tries`: when a try hangs.
 #![tactic(auto)]
 
+mod bases;
 mod shares;
 mod sharing;
 mod tries;
 
+pub use bases::{slew_drift, slewed_laws, with_slewed};
 pub use shares::{
     RoundTerms, ended_at, folder_and_name, fresh_until, period_of, shared_laws, shared_of,
     usable_until, withdrawn,

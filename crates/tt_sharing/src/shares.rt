@@ -13,12 +13,12 @@ ghost use Rattle.tt_shared.specs.Seeing.{IsSeen};
 ghost use Rattle.tt_shared.specs.Slot.{IsShared, IsSlotOf};
 ghost use Rattle.tt_consistency.specs.Reads.{IsNoEarlier};
 ghost use Rattle.tt_consistency.specs.Timeline.{HeldTrueTime};
-ghost use Rattle.tt_sharing.specs.Share.{fresh_until, growing_time, period_of, shared_of, usable_until, withdrawn};
+ghost use Rattle.tt_sharing.specs.Share.{ended_at, fresh_until, growing_time, period_of, shared_of, usable_until, withdrawn, without_slewed};
 
 use tt_daemon::{Config, Fused};
 use tt_publish::FusedSpan;
 use tt_settings::Pauses;
-use tt_shared::SharedSpan;
+use tt_shared::{SharedSpan, SlewedBase};
 use tt_span::{Drift, MAX_TIME, Span};
 
 /// What the rounds of a life have in common.
@@ -76,7 +76,7 @@ pub fn usable_until(clock: u64, span: &Span, drift: Drift, most: u64) -> u64
 }
 
 /// The publication with this number in the life of these terms, as other processes read it. It rests on answers as new
-/// as the clock reading `needed`, and is fresh for three periods after that.
+/// as the clock reading `needed`, and is fresh for three periods after that. It has no second base yet.
 pub fn shared_of(fused: &Fused, number: u64, needed: u64, terms: &RoundTerms) -> SharedSpan
     ensures value { result ≡ shared_of fused.now terms.now.epoch number needed terms.now.pauses terms.now.config.drift terms.now.max_width }
 {
@@ -89,16 +89,18 @@ pub fn shared_of(fused: &Fused, number: u64, needed: u64, terms: &RoundTerms) ->
         number,
         drift,
         usable_until: usable_until(clock, &span, drift, terms.max_width),
+        slewed: SlewedBase::none(),
     }
 }
 
 /// The same publication after its machine ended in order at the clock reading `now`. After this reading it is no longer
-/// fresh.
+/// fresh, and by its second base it is not fresh at any reading but 0.
 pub fn ended_at(shared: &SharedSpan, now: u64) -> SharedSpan
-    ensures value { result ≡ record shared.now { valid_until = now } }
+    ensures value { result ≡ ended_at shared.now now }
 {
     let mut ended = *shared;
     ended.valid_until = now;
+    ended.slewed.valid_until = 0;
     ended
 }
 
@@ -117,6 +119,7 @@ pub fn withdrawn(epoch: u64, number: u64, drift: Drift) -> SharedSpan
         number,
         drift,
         usable_until: 0,
+        slewed: SlewedBase::none(),
     }
 }
 
@@ -150,10 +153,10 @@ pub fn shared_laws()
         IsShared (shared_of publication epoch number needed pauses drift most) }
 
     // A reading by the file is the reading of the publication of the life that has the count of the index, aged by the
-    // drift of its machine up to what the reader's own clock showed.
+    // drift of its machine up to what the reader's own clock showed, whether it has a second base or not.
     ensures is_of_life { (published : ℕ → TheSpan) (n : ℕ) (index bytes : List ℕ) (found : TheSpan) (clock : ℕ)
         (publication : Published) (epoch number needed : ℕ) (pauses : ThePauses) (drift most : ℕ) →
-        IsSeen published n index bytes index → published n ≡ shared_of publication epoch number needed pauses drift most →
+        IsSeen published n index bytes index → without_slewed (published n) ≡ shared_of publication epoch number needed pauses drift most →
         IsShared (published n) → IsSlotOf (word_of index) found bytes →
         reading_at found.drift found.fused clock ≡ reading_at drift (fused_span_of publication) clock }
 
@@ -161,7 +164,7 @@ pub fn shared_laws()
     // and the reader share keeps its drift bound over this moment and that of the reading, and the reading is no earlier.
     ensures holds { (published : ℕ → TheSpan) (n : ℕ) (index bytes : List ℕ) (found : TheSpan) (clock time : ℕ)
         (publication : Published) (epoch number needed : ℕ) (pauses : ThePauses) (drift most : ℕ) (moments : List Moment) →
-        IsSeen published n index bytes index → published n ≡ shared_of publication epoch number needed pauses drift most →
+        IsSeen published n index bytes index → without_slewed (published n) ≡ shared_of publication epoch number needed pauses drift most →
         IsShared (published n) → IsSlotOf (word_of index) found bytes → CanBeReadAt found.fused clock →
         HeldTrueTime moments (fused_span_of publication) → KeepsDrift drift (record { clock = clock; time = time } ∷ moments) →
         IsNoEarlier moments (fused_span_of publication) time → time ≤ max_time →

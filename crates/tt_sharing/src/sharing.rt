@@ -6,6 +6,7 @@ ghost use Rattle.tt_sharing.specs.Share.{CannotWrite, IsOpen, Writes, broken_aft
 
 use std::alloc::Global;
 use std::fs::{File, Files};
+use tt_host::HostClock;
 use tt_shared::{FilePlace, Place, SharedSpan, SharedTeller, WriteFault, open_file};
 use tt_status::LogEvent;
 
@@ -206,11 +207,12 @@ fn number_in(tried: Result<(), WriteFault>) -> Option<u16>
     }
 }
 
-/// The folder and the name of the shared file.
+/// The folder and the name of the shared file, and the clock by which it is: that of the machine.
 #[derive(Clone, Copy)]
 pub struct SharePath<'a> {
     pub folder: &'a str,
     pub name: &'a str,
+    pub clock: HostClock,
 }
 
 /// Opens the shared file.
@@ -225,7 +227,8 @@ impl<'a, R: Files<File = File>> Opener<FilePlace<'a, R>> for FileOpener<'a, R> {
     ghost opens = { λ _ teller. teller.broken ≡ false };
 
     fn open(&self) -> Result<SharedTeller<FilePlace<'a, R>>, WriteFault> {
-        open_file(self.rt, self.alloc, self.path.folder, self.path.name)
+        let path = &self.path;
+        open_file(self.rt, self.alloc, path.folder, path.name, path.clock)
     }
 }
 
