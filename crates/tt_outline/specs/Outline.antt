@@ -6,6 +6,8 @@ use Rattle.tt_span.specs.Drift.{widening}
 use Rattle.tt_span.specs.Interval.{Interval}
 use Rattle.tt_daemon.specs.Config.{Configuration}
 use Rattle.tt_text.specs.Line.{line_of}
+use Rattle.tt_host.specs.declared.clocks.HostClock.{HostClock}
+use Rattle.tt_host.specs.declared.clocks.HostClock.TheVariants.{Raw, Monotonic}
 use Rattle.tt_settings.specs.declared.plans.Pauses.{Pauses}
 use Rattle.tt_settings.specs.declared.forms.OnBreak.{OnBreak}
 use Rattle.tt_settings.specs.declared.forms.OnBreak.TheVariants.{End, Warn, Stay}
@@ -95,6 +97,19 @@ config_text c =
     ++ line_of (codes "drift") (c.drift ∷ [])
     ++ line_of (codes "rates") (loss_covered c.drift ∷ gain_covered c.drift ∷ [])
 
+-- the clock by which it measures
+abbrev pub clock_word : HostClock → List ℕ
+clock_word Raw = codes "raw"
+clock_word Monotonic = codes "monotonic"
+
+-- that clock, and how far the slewed one may go beside the raw one
+unfoldable pub clocks_text : HostClock → ℕ → List ℕ
+clocks_text clock slew = word_line (codes "clock") (clock_word clock) ++ line_of (codes "slew") (slew ∷ [])
+
+-- what it is set up with, and its clocks
+unfoldable pub setup_text : Configuration → HostClock → ℕ → List ℕ
+setup_text c clock slew = config_text c ++ clocks_text clock slew
+
 -- how its readings grow and how wide they become, its threads, its memory, and the descriptors that it wants
 unfoldable pub sums_text : Pauses → Configuration → ℕ → List ℕ
 sums_text p c helpers =
@@ -132,7 +147,7 @@ http_text None = []
 -- its numbers
 unfoldable pub numbers_text : Meaning → List ℕ
 numbers_text s =
-    config_text s.config
+    setup_text s.config s.clock s.slew
     ++ pauses_text s.pauses
     ++ lease_text s.lease
     ++ stampers_text s.stampers

@@ -3,11 +3,12 @@
 ghost use Rattle.std.specs.Prelude.{◌≡◌, ◌++◌, OnOk, IfOk, string_bytes, option_copied, ◌≤◌, ◌*◌};
 ghost use Rattle.std.specs.List.{flat_map};
 ghost use Rattle.tt_span.specs.Time.{max_time};
-ghost use Rattle.tt_outline.specs.Outline.{outline_text, word_line, path_line, master_line, address_text, keys_text, numbers_text, files_text, growth_of, threads_of, memory_of, pauses_text, config_text, sums_text, lease_text, stampers_text, width_text, break_word, helpers_of, http_text, width_beyond, width_line, widths_text};
+ghost use Rattle.tt_outline.specs.Outline.{outline_text, word_line, path_line, master_line, address_text, keys_text, numbers_text, files_text, growth_of, threads_of, memory_of, pauses_text, config_text, sums_text, lease_text, stampers_text, width_text, break_word, clock_word, clocks_text, setup_text, helpers_of, http_text, width_beyond, width_line, widths_text};
 
 use crate::rates::{gain_covered, loss_covered};
 use std::alloc::{AllocError, Global};
 use tt_daemon::Config;
+use tt_host::HostClock;
 use tt_server::{has_names, needed_descriptors};
 use tt_settings::{FilePath, MasterSettings, OnBreak, Pauses, Settings};
 use tt_sharing::period_of;
@@ -187,6 +188,39 @@ fn push_config(text: &mut String, config: &Config) -> Result<(), AllocError>
     push_line(text, "rates", &rates)
 }
 
+/// The clock by which it measures, as the settings write it.
+fn clock_word(clock: HostClock) -> &'static str
+    ensures { result.now ≡ clock_word clock }
+{
+    match clock {
+        HostClock::Raw => "raw",
+        HostClock::Monotonic => "monotonic",
+    }
+}
+
+/// Adds the lines of that clock, and of how far the slewed one may go beside the raw one.
+#[tactic(auto, unfolding(crate::specs::Outline::clocks_text))]
+fn push_clocks(text: &mut String, clock: HostClock, slew: u32) -> Result<(), AllocError>
+    ensures { OnOk result (string_bytes text.new ≡ string_bytes text.old ++ clocks_text clock slew) }
+{
+    push_words(text, "clock", clock_word(clock))?;
+    push_line(text, "slew", &[u64::from(slew)])
+}
+
+/// Adds the lines of the configuration, and those of the clocks.
+#[tactic(auto, unfolding(crate::specs::Outline::setup_text))]
+fn push_setup(
+    text: &mut String,
+    config: &Config,
+    clock: HostClock,
+    slew: u32,
+) -> Result<(), AllocError>
+    ensures { OnOk result (string_bytes text.new ≡ string_bytes text.old ++ setup_text config.now clock slew) }
+{
+    push_config(text, config)?;
+    push_clocks(text, clock, slew)
+}
+
 /// Adds the lines that are computed from the settings: how readings grow and how wide they become, the threads, the memory,
 /// and the descriptors.
 #[tactic(auto, unfolding(crate::specs::Outline::sums_text))]
@@ -264,7 +298,7 @@ fn push_numbers(text: &mut String, settings: &Settings) -> Result<(), AllocError
 {
     let config = settings.config();
     let pauses = settings.pauses();
-    push_config(text, &config)?;
+    push_setup(text, &config, settings.clock(), settings.slew())?;
     push_pauses(text, &pauses)?;
     push_lease(text, &settings.lease())?;
     push_stampers(text, settings.stampers())?;
@@ -296,9 +330,9 @@ fn push_files(text: &mut String, settings: &Settings) -> Result<(), AllocError>
 
 /// What a machine with these settings would do, as text. There is one line for each of `machine`, `listen`, `http` (if there
 /// is an address), `master` (one for each master, in the order of the sources: its address, and behind the word `key` the
-/// numbers of its keys, if it has some), `faulty`, `workers`, `drift`, `rates`, `poll`, `wait`, `floor_ahead`, `idle`, `lease`,
-/// `stampers` (if there are some), `on_break`, `max_width` (if there is a limit), `growth`, `width` (four times), `threads`,
-/// `memory`, `descriptors`, `state`, and for each of `socket`, `shared`, `status`, `evidence`, `vmclock` and `keys` that the
+/// numbers of its keys, if it has some), `faulty`, `workers`, `drift`, `rates`, `clock`, `slew`, `poll`, `wait`, `floor_ahead`,
+/// `idle`, `lease`, `stampers` (if there are some), `on_break`, `max_width` (if there is a limit), `growth`, `width` (four
+/// times), `threads`, `memory`, `descriptors`, `state`, and for each of `socket`, `shared`, `status`, `evidence`, `vmclock` and `keys` that the
 /// settings have. Times are in nanoseconds. `rates` has the most that a clock may lose by the drift, and the most that it may
 /// gain, in parts of a billion of true time. `descriptors` is the limit that a process wants for all sessions.
 ///

@@ -1,7 +1,7 @@
 -- Which lines of the log are of one kind.
 use Rattle.std.specs.Prelude.{ℕ, ◌+◌, min}
 use Rattle.tt_status.specs.declared.lines.LogEvent.{LogEvent}
-use Rattle.tt_status.specs.declared.lines.LogEvent.TheVariants.{Started, FirstPublication, SourceSilent, SourceSuspect, FusionRefused, ClockBack, AnswersRefused, RoundFailed, SharingEnded, SharingResumed, StatusUnwritten, NotAccepted, StateLoose, EpochLoose, SharedLoose, Ended, MasterStarted, MasterFailed, SocketRenewed, PublicationSlow, SourceUnsent, AssumptionBroken, HostSlept, GuestDisrupted, SleepUnseen, Descriptors, SourcesStale, StartPaused, EvidenceUnwritten, Stranger, SourceUnresolved, SourceResolved, KeysRead, KeysRefused, PollsUnopened, AddressAwaited, MasterSilent, MasterAnswers, WidthAbove, ClockStepped, ServerRefused, ServerSilent}
+use Rattle.tt_status.specs.declared.lines.LogEvent.TheVariants.{Started, FirstPublication, SourceSilent, SourceSuspect, FusionRefused, ClockBack, AnswersRefused, RoundFailed, SharingEnded, SharingResumed, StatusUnwritten, NotAccepted, StateLoose, EpochLoose, SharedLoose, Ended, MasterStarted, MasterFailed, SocketRenewed, PublicationSlow, SourceUnsent, AssumptionBroken, HostSlept, GuestDisrupted, SleepUnseen, Descriptors, SourcesStale, StartPaused, EvidenceUnwritten, Stranger, SourceUnresolved, SourceResolved, KeysRead, KeysRefused, PollsUnopened, AddressAwaited, MasterSilent, MasterAnswers, WidthAbove, ClockStepped, ServerRefused, ServerSilent, SlewTooFast, SlewInBounds}
 use Rattle.tt_status.specs.declared.lines.RefusedFusion.TheVariants.{NoPoint, TooFewKnown}
 
 -- the kind of an event, of which one line is said in ten seconds: each reason of a refused fusion is a kind of its own, and so is each source and each server
@@ -41,6 +41,8 @@ kind_of MasterAnswers = 31
 kind_of (WidthAbove width limit) = 32
 kind_of ClockStepped = 33
 kind_of (PollsUnopened count) = 34
+kind_of (SlewTooFast rate slew) = 35
+kind_of SlewInBounds = 36
 kind_of (Descriptors limit needed sessions) = 40
 kind_of (SourceSilent source) = 48 + min source 15
 kind_of (SourceSuspect source) = 64 + min source 15

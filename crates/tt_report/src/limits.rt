@@ -77,6 +77,8 @@ fn kind_of(event: LogEvent) -> usize
         LogEvent::WidthAbove { .. } => 32,
         LogEvent::ClockStepped => 33,
         LogEvent::PollsUnopened { .. } => 34,
+        LogEvent::SlewTooFast { .. } => 35,
+        LogEvent::SlewInBounds => 36,
         LogEvent::Descriptors { .. } => 40,
         LogEvent::SourceSilent { source } => SILENT + source.min(15) as usize,
         LogEvent::SourceSuspect { source } => SUSPECT + source.min(15) as usize,

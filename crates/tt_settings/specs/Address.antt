@@ -3,7 +3,8 @@ use Rattle.std.specs.Prelude.{codes, ℕ, nat_eq, if◌then◌else◌, List, ◌
 use Rattle.std.specs.Cmp.Lexicographic.{pointwise}
 use Rattle.toml.specs.Data.{Data, Members, get_member, as_str}
 use Rattle.tt_settings.specs.declared.keys.Key.{Key}
-use Rattle.tt_settings.specs.declared.keys.Key.TheVariants.{Http}
+use Rattle.tt_settings.specs.declared.keys.Key.TheVariants.{Listen, Http}
+use Rattle.tt_settings.specs.declared.addresses.Ports.{Ports}
 use Rattle.tt_settings.specs.declared.faults.SettingsFault.{SettingsFault}
 use Rattle.tt_settings.specs.declared.faults.SettingsFault.TheVariants.{WrongValue, NotLocal}
 use Rattle.tt_settings.specs.Fault.{◌>>=◌}
@@ -38,3 +39,10 @@ fixed_in key d = do
 -- the port of the address for pages over HTTP, where one is given
 abbrev pub http_in : Members → Result (Option ℕ) SettingsFault
 http_in t = optional (fixed_in Http) (get_member (text_of Http) t)
+
+-- the ports of a machine: its own, and that of its pages
+unfoldable pub ports_in : Members → Result Ports SettingsFault
+ports_in t = do
+  listen ← address_at Listen t
+  http ← http_in t
+  Ok (record { listen = listen; http = http })

@@ -2,6 +2,8 @@
 use Rattle.std.specs.Prelude.{ℕ, nat_eq, if◌then◌else◌, List, codes, Option, Some, None, option_map, ok_or, Result, Ok}
 use Rattle.std.specs.Cmp.Lexicographic.{pointwise}
 use Rattle.toml.specs.Data.{Data, Members, get_member, as_str}
+use Rattle.tt_host.specs.declared.clocks.HostClock.{HostClock}
+use Rattle.tt_host.specs.declared.clocks.HostClock.TheVariants.{Raw, Monotonic}
 use Rattle.tt_status.specs.declared.lines.LogFormat.{LogFormat}
 use Rattle.tt_status.specs.declared.lines.LogFormat.TheVariants.{Text, Json}
 use Rattle.tt_settings.specs.declared.forms.Choice.{Choice}
@@ -10,7 +12,7 @@ use Rattle.tt_settings.specs.declared.forms.OnBreak.{OnBreak as Act}
 use Rattle.tt_settings.specs.declared.forms.Conduct.{Conduct}
 use Rattle.tt_settings.specs.declared.forms.OnBreak.TheVariants.{End, Warn, Stay}
 use Rattle.tt_settings.specs.declared.keys.Key.{Key}
-use Rattle.tt_settings.specs.declared.keys.Key.TheVariants.{Log, OnBreak, MaxWidth}
+use Rattle.tt_settings.specs.declared.keys.Key.TheVariants.{Clock, Log, OnBreak, MaxWidth}
 use Rattle.tt_settings.specs.declared.keys.ValueKind.{ValueKind}
 use Rattle.tt_settings.specs.declared.keys.ValueKind.TheVariants as kind
 use Rattle.tt_settings.specs.declared.faults.SettingsFault.{SettingsFault}
@@ -51,6 +53,17 @@ abbrev pub log_at : Members → Result LogFormat SettingsFault
 log_at t = do
   choice ← choice_at Log t
   Ok (log_format choice)
+
+-- the clock that each word is
+abbrev pub clock_named : Choice → HostClock
+clock_named First = Raw
+clock_named Second = Monotonic
+
+-- the clock by which a machine measures, which is the raw one where the key is absent
+abbrev pub clock_at : Members → Result HostClock SettingsFault
+clock_at t = do
+  choice ← choice_at Clock t
+  Ok (clock_named choice)
 
 -- what each word has a machine do
 abbrev pub act_of : List ℕ → Option Act

@@ -7,7 +7,7 @@ use Rattle.tt_span.specs.Time.{max_time}
 use Rattle.tt_poll.specs.Message.{max_machine}
 use Rattle.tt_daemon.specs.Config.{max_workers}
 use Rattle.tt_settings.specs.declared.keys.Key.{Key}
-use Rattle.tt_settings.specs.declared.keys.Key.TheVariants.{Machine, Masters, Faulty, Workers, Drift, Poll, Wait, FloorAhead, Idle, LeaseLo, LeaseHi, Stampers, Listen, Http, Log, OnBreak, MaxWidth, Socket, State, Shared, Status, Evidence, Vmclock, Keys, Master, MasterAddress, MasterKey}
+use Rattle.tt_settings.specs.declared.keys.Key.TheVariants.{Machine, Masters, Faulty, Workers, Drift, Clock, Slew, Poll, Wait, FloorAhead, Idle, LeaseLo, LeaseHi, Stampers, Listen, Http, Log, OnBreak, MaxWidth, Socket, State, Shared, Status, Evidence, Vmclock, Keys, Master, MasterAddress, MasterKey}
 use Rattle.tt_settings.specs.declared.keys.ValueKind.{ValueKind}
 use Rattle.tt_settings.specs.declared.keys.ValueKind.TheVariants as kind
 
@@ -18,6 +18,10 @@ millisecond = 1000000
 abbrev pub second : ℕ
 second = 1000000000
 
+-- the most that the slewed clock may be told to go faster or slower by, in parts per million
+abbrev pub max_slew : ℕ
+max_slew = 90000
+
 -- the key as the file writes it, and what its value has to be: the one description of a key
 abbrev pub entry_of : Key → List ℕ × ValueKind
 entry_of Machine = (codes "machine", kind.Number 0 max_machine)
@@ -25,6 +29,8 @@ entry_of Masters = (codes "masters", kind.Addresses)
 entry_of Faulty = (codes "faulty", kind.Number 0 max_time)
 entry_of Workers = (codes "workers", kind.Number 1 max_workers)
 entry_of Drift = (codes "drift", kind.Number 0 max_drift)
+entry_of Clock = (codes "clock", kind.Form (codes "raw", codes "monotonic"))
+entry_of Slew = (codes "slew", kind.Number 0 max_slew)
 entry_of Poll = (codes "poll", kind.Duration millisecond (3600 * second))
 entry_of Wait = (codes "wait", kind.Duration millisecond (10 * second))
 entry_of FloorAhead = (codes "floor_ahead", kind.Duration 0 (10 * second))
@@ -57,8 +63,8 @@ kind_of key = (entry_of key).1
 -- all keys of a document
 abbrev pub all_keys : List Key
 all_keys =
-    Machine ∷ Masters ∷ Faulty ∷ Workers ∷ Drift ∷ Poll ∷ Wait ∷ FloorAhead ∷ Idle ∷ LeaseLo ∷ LeaseHi ∷ Stampers ∷ Listen ∷ Http ∷ Log ∷ OnBreak
-    ∷ MaxWidth ∷ Socket ∷ State ∷ Shared ∷ Status ∷ Evidence ∷ Vmclock ∷ Keys ∷ Master ∷ []
+    Machine ∷ Masters ∷ Faulty ∷ Workers ∷ Drift ∷ Clock ∷ Slew ∷ Poll ∷ Wait ∷ FloorAhead ∷ Idle ∷ LeaseLo ∷ LeaseHi ∷ Stampers ∷ Listen ∷ Http ∷ Log
+    ∷ OnBreak ∷ MaxWidth ∷ Socket ∷ State ∷ Shared ∷ Status ∷ Evidence ∷ Vmclock ∷ Keys ∷ Master ∷ []
 
 -- all keys of the table of a master
 abbrev pub master_keys : List Key

@@ -5,12 +5,14 @@ use Rattle.tt_span.specs.Time.{max_time}
 use Rattle.tt_span.specs.Interval.{Interval}
 use Rattle.tt_daemon.specs.Config.{Configuration, max_workers, default_drift}
 use Rattle.tt_settings.specs.declared.keys.Key.{Key}
-use Rattle.tt_settings.specs.declared.keys.Key.TheVariants.{Faulty, Workers, Drift, Poll, Wait, FloorAhead, Idle, LeaseLo, LeaseHi, Stampers}
+use Rattle.tt_settings.specs.declared.keys.Key.TheVariants.{Faulty, Workers, Drift, Slew, Poll, Wait, FloorAhead, Idle, LeaseLo, LeaseHi, Stampers}
 use Rattle.tt_settings.specs.declared.faults.SettingsFault.{SettingsFault}
 use Rattle.tt_settings.specs.declared.faults.SettingsFault.TheVariants.{WrongValue, TooManyFaulty}
+use Rattle.tt_settings.specs.declared.plans.Clocking.{Clocking}
 use Rattle.tt_settings.specs.declared.plans.Pauses.{Pauses}
 use Rattle.tt_settings.specs.Fault.{◌>>=◌}
 use Rattle.tt_settings.specs.Key.{millisecond, second, text_of}
+use Rattle.tt_settings.specs.Form.{clock_at}
 use Rattle.tt_settings.specs.Lookup.{typed_value, whole_in, within, amount_or, optional}
 
 -- how many of so many masters may be faulty at most
@@ -30,6 +32,17 @@ configuration_in masters t = do
   workers ← amount_or Workers max_workers t
   drift ← amount_or Drift default_drift t
   configuration_if masters faulty workers drift
+
+-- how much faster or slower the slewed clock may go where nothing else is given, in parts per million
+abbrev pub default_slew : ℕ
+default_slew = 1000
+
+-- by which clock a machine measures, and how far it trusts the slewed one
+unfoldable pub clocking_in : Members → Result Clocking SettingsFault
+clocking_in t = do
+  clock ← clock_at t
+  slew ← amount_or Slew default_slew t
+  Ok (record { clock = clock; slew = slew })
 
 -- the pause between two rounds of polls where no other is given, in nanoseconds
 abbrev pub default_poll : ℕ

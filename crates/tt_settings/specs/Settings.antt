@@ -4,20 +4,23 @@ use Rattle.toml.specs.Data.{Members}
 use Rattle.toml.specs.Parse.{parse_document}
 use Rattle.tt_span.specs.Interval.{Interval}
 use Rattle.tt_daemon.specs.Config.{Configuration}
+use Rattle.tt_host.specs.declared.clocks.HostClock.{HostClock}
 use Rattle.tt_status.specs.declared.lines.LogFormat.{LogFormat}
 use Rattle.tt_settings.specs.declared.forms.Conduct.{Conduct}
 use Rattle.tt_settings.specs.declared.forms.OnBreak.{OnBreak}
-use Rattle.tt_settings.specs.declared.keys.Key.TheVariants.{Machine, Listen}
+use Rattle.tt_settings.specs.declared.keys.Key.TheVariants.{Machine}
+use Rattle.tt_settings.specs.declared.addresses.Ports.{Ports}
 use Rattle.tt_settings.specs.declared.faults.SettingsFault.{SettingsFault}
 use Rattle.tt_settings.specs.declared.faults.SettingsFault.TheVariants.{NotToml}
+use Rattle.tt_settings.specs.declared.plans.Clocking.{Clocking}
 use Rattle.tt_settings.specs.declared.plans.Pauses.{Pauses}
 use Rattle.tt_settings.specs.declared.texts.Paths.{Paths}
 use Rattle.tt_settings.specs.Fault.{◌>>=◌}
 use Rattle.tt_settings.specs.Key.{first_unknown}
 use Rattle.tt_settings.specs.Lookup.{amount_at, count_of}
-use Rattle.tt_settings.specs.Address.{address_at, http_in}
+use Rattle.tt_settings.specs.Address.{ports_in}
 use Rattle.tt_settings.specs.Master.{Master, keys_if, listed_in, masters_of}
-use Rattle.tt_settings.specs.Plan.{configuration_in, pauses_in, lease_in, stampers_in}
+use Rattle.tt_settings.specs.Plan.{configuration_in, clocking_in, pauses_in, lease_in, stampers_in}
 use Rattle.tt_settings.specs.Form.{conduct_in}
 use Rattle.tt_settings.specs.Text.{paths_in}
 use Rattle.tt_settings.specs.Check.{all_fit}
@@ -26,6 +29,8 @@ use Rattle.tt_settings.specs.Check.{all_fit}
 pub record Meaning : Type 0 where
   pub machine : ℕ
   pub config : Configuration
+  pub clock : HostClock
+  pub slew : ℕ
   pub pauses : Pauses
   pub lease : Interval
   pub stampers : Option Interval
@@ -44,15 +49,17 @@ pub record Meaning : Type 0 where
   pub keys : Option (List ℕ)
 
 -- what the parts of a document mean
-abbrev pub meaning_of : ℕ → Configuration → Pauses → Interval → Option Interval → ℕ → Option ℕ → Conduct → List Master → Paths → Meaning
-meaning_of machine config pauses lease stampers listen http conduct masters paths = record {
+abbrev pub meaning_of : ℕ → Configuration → Clocking → Pauses → Interval → Option Interval → Ports → Conduct → List Master → Paths → Meaning
+meaning_of machine config clocking pauses lease stampers ports conduct masters paths = record {
   machine = machine;
   config = config;
+  clock = clocking.clock;
+  slew = clocking.slew;
   pauses = pauses;
   lease = lease;
   stampers = stampers;
-  listen = listen;
-  http = http;
+  listen = ports.listen;
+  http = ports.http;
   log = conduct.log;
   on_break = conduct.on_break;
   max_width = conduct.max_width;
@@ -73,15 +80,15 @@ keys_of t = do
   machine ← amount_at Machine t
   listed ← listed_in t
   config ← configuration_in (count_of listed.1) t
+  clocking ← clocking_in t
   pauses ← pauses_in t
   lease ← lease_in t
   stampers ← stampers_in t
-  listen ← address_at Listen t
-  http ← http_in t
+  ports ← ports_in t
   conduct ← conduct_in t
   masters ← masters_of listed
   paths ← paths_in t
-  Ok (meaning_of machine config pauses lease stampers listen http conduct masters paths)
+  Ok (meaning_of machine config clocking pauses lease stampers ports conduct masters paths)
 
 -- the paths of a machine
 abbrev pub paths_of : Meaning → Paths

@@ -2,13 +2,22 @@
 
 ghost use Rattle.std.specs.Prelude.{◌≡◌};
 ghost use Rattle.toml.specs.View.{view, table_view};
-ghost use Rattle.tt_settings.specs.Address.{port_of, address_in, address_at, fixed_in, http_in};
+ghost use Rattle.tt_settings.specs.Address.{port_of, address_in, address_at, fixed_in, http_in, ports_in};
 
 use crate::faults::SettingsFault;
 use crate::keys::Key;
 use crate::lookups::{found_at, text_in, value_at};
 use crate::numerals::number_of;
 use toml::{Table, Value};
+
+/// The ports of 127.0.0.1 at which a machine answers.
+#[derive(Clone, Copy)]
+pub(crate) struct Ports {
+    /// That of its sessions.
+    pub(crate) listen: u16,
+    /// That of its pages over HTTP, if it has some.
+    pub(crate) http: Option<u16>,
+}
 
 /// The port of an address of this host. The text is `127.0.0.1:` and the port, from 0 to 65535, in decimal digits
 /// without leading zeros. None for any other text.
@@ -35,7 +44,7 @@ fn address_in(key: Key, value: &Value) -> Result<u16, SettingsFault>
 }
 
 /// The port of the address at a key.
-pub(crate) fn address_at(table: &Table, key: Key) -> Result<u16, SettingsFault>
+fn address_at(table: &Table, key: Key) -> Result<u16, SettingsFault>
     ensures { result ≡ address_at key (table_view table.now) }
 {
     address_in(key, value_at(table, key)?)
@@ -54,7 +63,7 @@ fn fixed_in(key: Key, value: &Value) -> Result<u16, SettingsFault>
 }
 
 /// The port of the address for pages over HTTP, if one is given.
-pub(crate) fn http_in(table: &Table) -> Result<Option<u16>, SettingsFault>
+fn http_in(table: &Table) -> Result<Option<u16>, SettingsFault>
     ensures { result ≡ http_in (table_view table.now) }
 {
     match found_at(table, Key::Http) {
@@ -64,4 +73,14 @@ pub(crate) fn http_in(table: &Table) -> Result<Option<u16>, SettingsFault>
         }
         None => Ok(None),
     }
+}
+
+/// The ports at which a machine answers.
+#[tactic(auto, unfolding(crate::specs::Address::ports_in))]
+pub(crate) fn ports_in(table: &Table) -> Result<Ports, SettingsFault>
+    ensures { result ≡ ports_in (table_view table.now) }
+{
+    let listen = address_at(table, Key::Listen)?;
+    let http = http_in(table)?;
+    Ok(Ports { listen, http })
 }

@@ -3,12 +3,13 @@
 ghost use Rattle.std.specs.Prelude.{◌≡◌};
 ghost use Rattle.toml.specs.View.{view, table_view};
 ghost use Rattle.tt_settings.specs.Key.{kind_of};
-ghost use Rattle.tt_settings.specs.Form.{act_in, act_of, choice_at, choice_in, choice_of, conduct_in, log_at, log_format, log_format_of, on_break_at};
+ghost use Rattle.tt_settings.specs.Form.{act_in, act_of, choice_at, choice_in, choice_of, clock_at, clock_named, conduct_in, log_at, log_format, log_format_of, on_break_at};
 
 use crate::faults::SettingsFault;
 use crate::keys::{Key, ValueKind};
 use crate::lookups::{found_at, optional_amount, text_in};
 use toml::{Table, Value};
+use tt_host::HostClock;
 use tt_status::LogFormat;
 
 /// What a machine does when it knows that one of its assumptions is broken.
@@ -106,6 +107,24 @@ fn log_at(table: &Table) -> Result<LogFormat, SettingsFault>
 {
     let choice = choice_at(table, Key::Log)?;
     Ok(log_format(choice))
+}
+
+/// The clock that each word is.
+fn clock_named(choice: Choice) -> HostClock
+    ensures { result ≡ clock_named choice }
+{
+    match choice {
+        Choice::First => HostClock::Raw,
+        Choice::Second => HostClock::Monotonic,
+    }
+}
+
+/// The clock by which a machine measures, which is the raw one if the key is absent.
+pub(crate) fn clock_at(table: &Table) -> Result<HostClock, SettingsFault>
+    ensures { result ≡ clock_at (table_view table.now) }
+{
+    let choice = choice_at(table, Key::Clock)?;
+    Ok(clock_named(choice))
 }
 
 /// What a text has a machine do when an assumption is broken. `None` for any other text.

@@ -20,6 +20,9 @@ const HOUR: u64 = 3600 * SECOND;
 /// A day, in nanoseconds.
 const DAY: u64 = 24 * HOUR;
 
+/// The most of the setting `slew`, in parts per million.
+pub const MAX_SLEW: u32 = 90_000;
+
 /// A key of a configuration file. The last two stand in the table of a master.
 #[derive(Clone, Copy, Debug, PartialEq, Eq)]
 pub enum Key {
@@ -28,6 +31,8 @@ pub enum Key {
     Faulty,
     Workers,
     Drift,
+    Clock,
+    Slew,
     Poll,
     Wait,
     FloorAhead,
@@ -53,12 +58,14 @@ pub enum Key {
 }
 
 /// All keys of a document.
-pub(crate) const KEYS: [Key; 25] = [
+pub(crate) const KEYS: [Key; 27] = [
     Key::Machine,
     Key::Masters,
     Key::Faulty,
     Key::Workers,
     Key::Drift,
+    Key::Clock,
+    Key::Slew,
     Key::Poll,
     Key::Wait,
     Key::FloorAhead,
@@ -194,6 +201,8 @@ impl Key {
             Key::Faulty => number("faulty", 0, MAX_TIME),
             Key::Workers => number("workers", 1, MAX_WORKERS as u64),
             Key::Drift => number("drift", 0, MAX_DRIFT as u64),
+            Key::Clock => form("clock", "raw", "monotonic"),
+            Key::Slew => number("slew", 0, MAX_SLEW as u64),
             Key::Poll => duration("poll", MILLISECOND, HOUR),
             Key::Wait => duration("wait", MILLISECOND, 10 * SECOND),
             Key::FloorAhead => duration("floor_ahead", 0, 10 * SECOND),

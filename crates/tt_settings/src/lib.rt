@@ -22,7 +22,7 @@
 //!
 //! - `settings`: [`Settings`], and [`read`].
 //! - `masters`: [`MasterSettings`]. `sockets`: socket addresses as texts. `prints`: what is printed of one. `names`: names of hosts with a port.
-//! - `plans`: the settings that are numbers. `texts`: the settings that are paths.
+//! - `plans`: the settings that are numbers, and the clock. `texts`: the settings that are paths.
 //! - `forms`: the settings that are one of two words. `addresses`: addresses of this host. `durations`: lengths of time with a unit. `numerals`: decimal numbers.
 //! - `checks`: what is refused of settings that can be read. `paths`: which files paths name.
 //! - `keys`: the keys of the file. `lookups`: values of a table by their keys.
@@ -54,7 +54,7 @@ pub use addresses::port_of;
 pub use durations::duration_of;
 pub use faults::SettingsFault;
 pub use forms::{OnBreak, log_format_of};
-pub use keys::Key;
+pub use keys::{Key, MAX_SLEW};
 pub use masters::{MasterAddress, MasterSettings};
 pub use names::host_of;
 pub use numerals::number_of;

@@ -6,14 +6,20 @@ ghost use Rattle.tt_span.specs.Drift.{max_drift};
 ghost use Rattle.tt_span.specs.Sources.{max_sources};
 ghost use Rattle.tt_span.specs.Time.{max_time};
 ghost use Rattle.tt_daemon.specs.Config.{max_workers};
-ghost use Rattle.tt_settings.specs.Plan.{configuration_if, configuration_in, lease_in, pauses_in, span_if, span_in, stampers_in, time_in};
+ghost use Rattle.tt_settings.specs.Key.{max_slew};
+ghost use Rattle.tt_settings.specs.Plan.{clocking_in, configuration_if, configuration_in, lease_in, pauses_in, span_if, span_in, stampers_in, time_in};
 
 use crate::faults::SettingsFault;
+use crate::forms::clock_at;
 use crate::keys::{Key, MILLISECOND, SECOND};
 use crate::lookups::{amount_or, found_at, items_in, whole_in, within};
 use toml::{Table, Value};
 use tt_daemon::{Config, DEFAULT_DRIFT, MAX_WORKERS};
+use tt_host::HostClock;
 use tt_span::{Drift, MAX_TIME, Span};
+
+/// How much faster or slower the slewed clock may go if nothing else is given, in parts per million.
+const DEFAULT_SLEW: u32 = 1000;
 
 /// The pause between two rounds of polls if no other is given, in nanoseconds.
 const DEFAULT_POLL: u64 = SECOND;
@@ -26,6 +32,15 @@ const DEFAULT_FLOOR_AHEAD: u64 = SECOND;
 
 /// After how long the connection of a silent client is closed if nothing else is given, in nanoseconds.
 const DEFAULT_IDLE: u64 = 60 * SECOND;
+
+/// By which clock a machine measures, and how far it trusts the slewed one.
+#[derive(Clone, Copy)]
+pub(crate) struct Clocking {
+    /// The clock by which it measures.
+    pub(crate) clock: HostClock,
+    /// How much faster or slower than the raw clock the slewed one may go, in parts per million.
+    pub(crate) slew: u32,
+}
 
 /// How long the parts of a machine wait, in nanoseconds.
 #[derive(Clone, Copy)]
@@ -84,6 +99,17 @@ fn configuration_if(
         Ok(config) => Ok(config),
         Err(_) => unreachable!(),
     }
+}
+
+/// By which clock a machine measures, and how far it trusts the slewed one.
+#[tactic(auto, unfolding(crate::specs::Plan::clocking_in))]
+pub(crate) fn clocking_in(table: &Table) -> Result<Clocking, SettingsFault>
+    ensures value { result ≡ clocking_in (table_view table.now) }
+    ensures bound { IfOk result (λ clocking. clocking.slew ≤ max_slew) }
+{
+    let clock = clock_at(table)?;
+    let slew = amount_or(table, Key::Slew, u64::from(DEFAULT_SLEW))? as u32;
+    Ok(Clocking { clock, slew })
 }
 
 /// How long the parts of a machine wait.

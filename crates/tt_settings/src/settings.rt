@@ -4,23 +4,27 @@ ghost use Rattle.std.specs.Prelude.{◌≡◌, ◌≤◌, option_copied, IfOk, I
 ghost use Rattle.toml.specs.View.{table_view};
 ghost use Rattle.tt_poll.specs.Message.{max_machine};
 ghost use Rattle.tt_settings.specs.Fault.{IsRefusal};
+ghost use Rattle.tt_settings.specs.Key.{max_slew};
 ghost use Rattle.tt_settings.specs.Check.{all_fit};
 ghost use Rattle.tt_settings.specs.Settings.{keys_of, paths_of, settings_of, settings_in};
 
-use crate::addresses::{address_at, http_in};
+use crate::addresses::{Ports, ports_in};
 use crate::checks::{check_masters, check_paths, check_workers};
 use crate::faults::SettingsFault;
 use crate::forms::{Conduct, OnBreak, conduct_in};
 use crate::keys::Key;
 use crate::lookups::{amount_at, count_of, first_unknown};
 use crate::masters::{MasterSettings, listed_in, masters_of};
-use crate::plans::{Pauses, configuration_in, lease_in, pauses_in, stampers_in};
+use crate::plans::{
+    Clocking, Pauses, clocking_in, configuration_in, lease_in, pauses_in, stampers_in,
+};
 use crate::refusals::Refusal;
 use crate::texts::{FilePath, Paths, paths_in};
 use std::alloc::Global;
 use std::marker::Model;
 use toml::Table;
 use tt_daemon::Config;
+use tt_host::HostClock;
 use tt_span::Span;
 use tt_status::LogFormat;
 
@@ -29,11 +33,11 @@ use tt_status::LogFormat;
 pub struct Settings {
     machine: u8,
     config: Config,
+    clocking: Clocking,
     pauses: Pauses,
     lease: Span,
     stampers: Option<Span>,
-    listen: u16,
-    http: Option<u16>,
+    ports: Ports,
     conduct: Conduct,
     masters: Vec<MasterSettings>,
     paths: Paths,
@@ -42,13 +46,14 @@ pub struct Settings {
 impl Model for Settings {
     ghost use Rattle.std.specs.Prelude.{◌≤◌};
     ghost use Rattle.tt_poll.specs.Message.{max_machine};
+    ghost use Rattle.tt_settings.specs.Key.{max_slew};
     ghost use Rattle.tt_settings.specs.Settings.{Meaning, meaning_of};
 
     ghost Value = { Meaning };
 
-    ghost view = { λ s. meaning_of s.machine s.config s.pauses s.lease s.stampers s.listen s.http s.conduct s.masters.items s.paths };
+    ghost view = { λ s. meaning_of s.machine s.config s.clocking s.pauses s.lease s.stampers s.ports s.conduct s.masters.items s.paths };
 
-    ghost invariant = { λ s. s.machine ≤ max_machine };
+    ghost invariant = { λ s. (s.machine ≤ max_machine) × (s.clocking.slew ≤ max_slew) };
 }
 
 impl Settings {
@@ -65,6 +70,24 @@ impl Settings {
         ensures value { result ≡ self.now.config }
     {
         self.config
+    }
+
+    /// The clock by which it measures. The drift is how far that one may be off.
+    pub fn clock(&self) -> HostClock
+        ensures value { result ≡ self.now.clock }
+    {
+        self.clocking.clock
+    }
+
+    /// How much faster or slower `CLOCK_MONOTONIC` may go than `CLOCK_MONOTONIC_RAW`, in parts per million, up to 90,000. If
+    /// it goes farther off, readers that cannot read the raw clock are told nothing. They are told nothing at all where the
+    /// drift d and this number s give them a drift above [`MAX_DRIFT`](tt_span::MAX_DRIFT): d + s, and d * s / 1,000,000,
+    /// rounded up.
+    pub fn slew(&self) -> u32
+        ensures value { result ≡ self.now.slew }
+        ensures bound { self.now.slew ≤ max_slew }
+    {
+        self.clocking.slew
     }
 
     /// How long its parts wait.
@@ -93,14 +116,14 @@ impl Settings {
     pub fn listen(&self) -> u16
         ensures value { result ≡ self.now.listen }
     {
-        self.listen
+        self.ports.listen
     }
 
     /// The port of 127.0.0.1 at which it gives its status over HTTP, from 1. None if it does not.
     pub fn http(&self) -> Option<u16>
         ensures value { result ≡ self.now.http }
     {
-        self.http
+        self.ports.http
     }
 
     /// The form of its log.
@@ -187,8 +210,8 @@ impl Settings {
 ///
 /// The keys `machine` (0 to 7), `masters` or `master` (from one to 16), `listen` (an address) and `state` (a folder) have
 /// to be there. The others may be absent: `faulty` (default: as many as the number of masters allows), `workers` (1 to 32;
-/// default 32), `drift` (parts per million; default 200), `poll` (default `"1s"`), `wait` (default `"250ms"`), `floor_ahead`
-/// (default `"1s"`), `idle` (default `"60s"`), `lease_lo` and `lease_hi` (nanoseconds; default: the whole of time),
+/// default 32), `drift` (parts per million; default 200), `clock` (`"raw"` or `"monotonic"`; default `"raw"`), `slew` (parts
+/// per million, up to 90,000; default 1000), `poll` (default `"1s"`), `wait` (default `"250ms"`), `floor_ahead` (default `"1s"`), `idle` (default `"60s"`), `lease_lo` and `lease_hi` (nanoseconds; default: the whole of time),
 /// `stampers` (the two ends of an interval, as `[5, 6]`, in nanoseconds; default: none), `log` (`"text"` or `"json"`;
 /// default `"text"`), `on_break` (`"end"` or `"warn"`; default `"end"`), `max_width` (from 0 to an hour, as `"10ms"`;
 /// default: no limit), `socket`, `shared`, `status`, `evidence`, `vmclock` and `keys` (paths; default: none). `listen` is
@@ -205,8 +228,8 @@ impl Settings {
 ///
 /// - 1801 `NotToml`: the text is not TOML.
 /// - 1802 `UnknownKey`: a key has another name.
-/// - Of the keys, in the order `machine`, `masters` or `master` (their number), `faulty`, `workers`, `drift`, `poll`, `wait`,
-///   `floor_ahead`, `idle`, `lease_lo`, `lease_hi`, `stampers`, `listen`, `http`, `log`, `on_break`, `max_width`, `masters`
+/// - Of the keys, in the order `machine`, `masters` or `master` (their number), `faulty`, `workers`, `drift`, `clock`,
+///   `slew`, `poll`, `wait`, `floor_ahead`, `idle`, `lease_lo`, `lease_hi`, `stampers`, `listen`, `http`, `log`, `on_break`, `max_width`, `masters`
 ///   or `master` (each of them), `state`, `socket`, `shared`, `status`, `evidence`, `vmclock`, `keys`: 1803 `MissingKey` where
 ///   the key is absent, 1804 `WrongValue` where its value has another type or is out of range, 1805 `NotLocal` where a text
 ///   is not an address of this host and has to be; before their number, 1825 `BothForms` where there are `masters` and
@@ -276,22 +299,22 @@ fn keys_of(alloc: Global, table: &Table) -> Result<Settings, SettingsFault>
     let machine = amount_at(table, Key::Machine)? as u8;
     let (key, items) = listed_in(table)?;
     let config = configuration_in(table, count_of(items))?;
+    let clocking = clocking_in(table)?;
     let pauses = pauses_in(table)?;
     let lease = lease_in(table)?;
     let stampers = stampers_in(table)?;
-    let listen = address_at(table, Key::Listen)?;
-    let http = http_in(table)?;
+    let ports = ports_in(table)?;
     let conduct = conduct_in(table)?;
     let masters = masters_of(alloc, key, items)?;
     let paths = paths_in(alloc, table)?;
     Ok(Settings {
         machine,
         config,
+        clocking,
         pauses,
         lease,
         stampers,
-        listen,
-        http,
+        ports,
         conduct,
         masters,
         paths,

@@ -23,6 +23,14 @@ nine_digits n = three_digits (n / 1000000) ++ three_digits (n / 1000) ++ three_d
 unfoldable pub seconds_text : ℕ → List ℕ
 seconds_text n = decimal (n / 1000000000) ++ codes "." ++ nine_digits n
 
+-- parts per billion as parts per million, exactly: with three digits behind the point
+unfoldable pub millionths_text : ℕ → List ℕ
+millionths_text n = decimal (n / 1000) ++ codes "." ++ three_digits n
+
+-- a rate in parts per billion as parts per million, with its sign where it is below 0
+abbrev pub rate_text : Difference → List ℕ
+rate_text d = if d.below && nat_lt 0 d.size then codes "-" ++ millionths_text d.size else millionths_text d.size
+
 -- a difference in nanoseconds as seconds, with its sign where it is below 0
 abbrev pub difference_text : Difference → List ℕ
 difference_text d = if d.below && nat_lt 0 d.size then codes "-" ++ seconds_text d.size else seconds_text d.size

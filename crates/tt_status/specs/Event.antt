@@ -7,10 +7,12 @@ use Rattle.jiff_core.specs.declared.civil.date.Date.{Date}
 use Rattle.tt_daemon.specs.Fault.{number_of as daemon_number_of}
 use Rattle.tt_daemon.specs.declared.faults.DaemonFault.TheVariants as daemon
 use Rattle.tt_status.specs.Moment.{moment_text}
+use Rattle.tt_status.specs.Digits.{rate_text}
+use Rattle.tt_status.specs.declared.digits.Difference.{Difference}
 use Rattle.tt_status.specs.declared.lines.LogFormat.{LogFormat}
 use Rattle.tt_status.specs.declared.lines.LogFormat.TheVariants.{Text, Json}
 use Rattle.tt_status.specs.declared.lines.LogEvent.{LogEvent}
-use Rattle.tt_status.specs.declared.lines.LogEvent.TheVariants.{Started, FirstPublication, SourceSilent, SourceSuspect, FusionRefused, ClockBack, AnswersRefused, RoundFailed, SharingEnded, SharingResumed, StatusUnwritten, NotAccepted, StateLoose, EpochLoose, SharedLoose, Ended, MasterStarted, MasterFailed, SocketRenewed, PublicationSlow, SourceUnsent, AssumptionBroken, HostSlept, GuestDisrupted, SleepUnseen, Descriptors, SourcesStale, StartPaused, EvidenceUnwritten, Stranger, SourceUnresolved, SourceResolved, KeysRead, KeysRefused, PollsUnopened, AddressAwaited, MasterSilent, MasterAnswers, WidthAbove, ClockStepped, ServerRefused, ServerSilent}
+use Rattle.tt_status.specs.declared.lines.LogEvent.TheVariants.{Started, FirstPublication, SourceSilent, SourceSuspect, FusionRefused, ClockBack, AnswersRefused, RoundFailed, SharingEnded, SharingResumed, StatusUnwritten, NotAccepted, StateLoose, EpochLoose, SharedLoose, Ended, MasterStarted, MasterFailed, SocketRenewed, PublicationSlow, SourceUnsent, AssumptionBroken, HostSlept, GuestDisrupted, SleepUnseen, Descriptors, SourcesStale, StartPaused, EvidenceUnwritten, Stranger, SourceUnresolved, SourceResolved, KeysRead, KeysRefused, PollsUnopened, AddressAwaited, MasterSilent, MasterAnswers, WidthAbove, ClockStepped, ServerRefused, ServerSilent, SlewTooFast, SlewInBounds}
 use Rattle.tt_status.specs.declared.lines.RefusedFusion.{RefusedFusion}
 use Rattle.tt_status.specs.declared.lines.RefusedFusion.TheVariants.{NoPoint, TooFewKnown}
 
@@ -23,6 +25,11 @@ refusal_number_of TooFewKnown = daemon_number_of daemon.Unknown
 abbrev pub field : LogFormat → List ℕ → ℕ → List ℕ
 field Text name value = codes " " ++ name ++ codes "=" ++ decimal value
 field Json name value = codes ",\"" ++ name ++ codes "\":" ++ decimal value
+
+-- a name and its rate in parts per million
+abbrev pub rate_field : LogFormat → List ℕ → Difference → List ℕ
+rate_field Text name rate = codes " " ++ name ++ codes "=" ++ rate_text rate
+rate_field Json name rate = codes ",\"" ++ name ++ codes "\":" ++ rate_text rate
 
 -- the name `address`, and the address as the standard library prints it
 abbrev pub address_field : LogFormat → SocketAddr → List ℕ
@@ -40,6 +47,7 @@ level_of (MasterStarted source port) = codes "info"
 level_of (SourceResolved source address) = codes "info"
 level_of (KeysRead keys) = codes "info"
 level_of MasterAnswers = codes "info"
+level_of SlewInBounds = codes "info"
 level_of ClockStepped = codes "error"
 level_of (AssumptionBroken clock lower upper last_lower last_upper) = codes "error"
 level_of (HostSlept slept) = codes "error"
@@ -90,8 +98,10 @@ name_of (WidthAbove width limit) = codes "width_above"
 name_of ClockStepped = codes "clock_stepped"
 name_of (ServerRefused server number) = codes "server_refused"
 name_of (ServerSilent server) = codes "server_silent"
+name_of (SlewTooFast rate slew) = codes "slew_too_fast"
+name_of SlewInBounds = codes "slew_in_bounds"
 
--- its numbers, each behind its name, and its address; the name of a time in nanoseconds ends in `_ns`
+-- its numbers, each behind its name, and its address; the name of a time in nanoseconds ends in `_ns`, that of parts per million in `_ppm`
 abbrev pub fields_of : LogFormat → LogEvent → List ℕ
 fields_of f (Started machine epoch port) = field f (codes "machine") machine ++ field f (codes "epoch") epoch ++ field f (codes "port") port
 fields_of f (FirstPublication width) = field f (codes "width_ns") width
@@ -127,6 +137,7 @@ fields_of f (MasterSilent number) = field f (codes "number") number
 fields_of f (WidthAbove width limit) = field f (codes "width_ns") width ++ field f (codes "limit_ns") limit
 fields_of f (ServerRefused server number) = field f (codes "server") server ++ field f (codes "number") number
 fields_of f (ServerSilent server) = field f (codes "server") server
+fields_of f (SlewTooFast rate slew) = rate_field f (codes "rate_ppm") rate ++ field f (codes "slew_ppm") slew
 fields_of f _ = []
 
 -- the time, the level and the name of an event

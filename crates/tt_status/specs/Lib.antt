@@ -5,5 +5,6 @@ pub mod Moment
 pub mod Event
 pub mod Metric
 pub mod Histogram
+pub mod Slewing
 pub mod Status
 pub mod Server

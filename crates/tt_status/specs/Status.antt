@@ -7,6 +7,7 @@ use Rattle.tt_source.specs.declared.faults.SourceFault.{SourceFault}
 use Rattle.tt_source.specs.declared.faults.SourceFault.TheVariants.{NoSource, ClockBack, NoncesUsedUp, BadMessage, NotMine, OtherEpoch, NotOutstanding}
 use Rattle.tt_status.specs.Metric.{Sample, Metric, single, metric_text}
 use Rattle.tt_status.specs.Histogram.{histogram_metric}
+use Rattle.tt_status.specs.Slewing.{slewing_metrics}
 use Rattle.tt_status.specs.declared.lines.RefusedFusion.TheVariants.{NoPoint, TooFewKnown}
 use Rattle.tt_status.specs.declared.metrics.Kind.{Kind}
 use Rattle.tt_status.specs.declared.metrics.Kind.TheVariants.{Gauge, Counter}
@@ -234,7 +235,7 @@ written_metrics s =
 abbrev pub metrics_of : Status → List Metric
 metrics_of s =
     (build_metric ∷ []) ++ publication_metrics s ++ known_metrics s ++ source_metrics s ++ round_metrics s ++ (refusals_metric s ∷ [])
-    ++ break_metrics s ++ client_metrics s ++ worker_metrics s ++ histogram_metrics s ++ written_metrics s
+    ++ break_metrics s ++ slewing_metrics s.slewing ++ client_metrics s ++ worker_metrics s ++ histogram_metrics s ++ written_metrics s
 
 -- the text of a status: each metric, with the number of the machine at each sample
 abbrev pub status_text : Status → List ℕ

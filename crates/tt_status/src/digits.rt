@@ -1,7 +1,7 @@
 //! Numbers with a fixed count of digits, and nanoseconds as seconds.
 
 ghost use Rattle.std.specs.Prelude.{◌≡◌, ◌++◌, OnOk, string_bytes};
-ghost use Rattle.tt_status.specs.Digits.{two_digits, three_digits, four_digits, nine_digits, seconds_text, difference_text};
+ghost use Rattle.tt_status.specs.Digits.{two_digits, three_digits, four_digits, nine_digits, seconds_text, difference_text, millionths_text, rate_text};
 
 use std::alloc::AllocError;
 
@@ -57,6 +57,25 @@ pub(crate) fn push_seconds(text: &mut String, nanoseconds: u64) -> Result<(), Al
 {
     write!(text, "{}.", nanoseconds / 1_000_000_000)?;
     push_nine_digits(text, nanoseconds)
+}
+
+/// Adds parts per billion as parts per million, exactly: with three digits behind the point.
+fn push_millionths(text: &mut String, billionths: u64) -> Result<(), AllocError>
+    ensures { OnOk result (string_bytes text.new ≡ string_bytes text.old ++ millionths_text billionths) }
+{
+    write!(text, "{}.", billionths / 1000)?;
+    push_three_digits(text, billionths)
+}
+
+/// Adds a rate in parts per billion as parts per million, with `-` before it where it is below 0.
+pub(crate) fn push_rate(text: &mut String, rate: Difference) -> Result<(), AllocError>
+    ensures { OnOk result (string_bytes text.new ≡ string_bytes text.old ++ rate_text rate) }
+{
+    if rate.below && rate.size > 0 {
+        text.push_str("-")?;
+        return push_millionths(text, rate.size);
+    }
+    push_millionths(text, rate.size)
 }
 
 /// Adds a difference in nanoseconds as seconds, with `-` before it where it is below 0.

@@ -2,7 +2,8 @@
 //!
 //! All of it is functions over values: no file is written here.
 //!
-//! - `statuses`: [`Status`], and its text in the format that Prometheus collects. `master_statuses`: [`MasterStatus`], and its text.
+//! - `statuses`: [`Status`], and its text in the format that Prometheus collects. `slewings`: [`Slewing`], what it shows of the slewed clock.
+//!   `master_statuses`: [`MasterStatus`], and its text.
 //!   `server_statuses`: [`ServerStatus`], what it shows of a server of a master.
 //! - `metrics`, `histograms`: the text of a metric. `digits`, `moments`: numbers with a fixed count of digits, seconds, and UTC.
 //! - `lines`: [`LogEvent`], and the line of a log that says it.
@@ -17,6 +18,7 @@ mod master_statuses;
 mod metrics;
 mod moments;
 mod server_statuses;
+mod slewings;
 mod statuses;
 
 pub use digits::Difference;
@@ -26,6 +28,7 @@ pub use lines::{LogEvent, LogFormat, RefusedFusion, push_event};
 pub use master_statuses::{KeyAnswers, MasterStatus, UNANSWERED, push_master_status};
 pub use metrics::VERSION;
 pub use server_statuses::ServerStatus;
+pub use slewings::Slewing;
 pub use statuses::{
     MAX_SOURCES, REASONS, SourceStatus, Status, UNOPENED, push_status, refusal_place,
     unopened_place,

@@ -3,8 +3,9 @@
 ghost use Rattle.std.specs.Prelude.{◌≡◌, ◌++◌, OnOk, string_bytes};
 ghost use Rattle.jiff_core.specs.declared.civil.date.Date.{Date as Day};
 ghost use Rattle.tt_status.specs.Moment.{IsDateOf};
-ghost use Rattle.tt_status.specs.Event.{event_line, head_text, left_out_text, end_text, field, address_field, level_of, name_of, fields_of, refusal_number_of};
+ghost use Rattle.tt_status.specs.Event.{event_line, head_text, left_out_text, end_text, field, rate_field, address_field, level_of, name_of, fields_of, refusal_number_of};
 
+use crate::digits::{Difference, push_rate};
 use crate::moments::{date_of, push_moment};
 use jiff_core::civil::Date;
 use std::alloc::AllocError;
@@ -136,7 +137,7 @@ pub enum LogEvent {
     },
     /// The machine is a guest whose clock was disrupted, as its host says.
     GuestDisrupted,
-    /// That the host sleeps would not be seen: `/proc/uptime` can't be read, or is not the kernel's.
+    /// That the host sleeps would not be seen: `CLOCK_BOOTTIME` or `CLOCK_MONOTONIC` can't be read.
     SleepUnseen,
     /// How many descriptors the process may have, how many all sessions want, and how many sessions there is room for.
     Descriptors {
@@ -200,7 +201,7 @@ pub enum LogEvent {
         width: u64,
         limit: u64,
     },
-    /// The real-time clock was stepped: this master is silent until it is started again.
+    /// The real-time clock was stepped, or is off by more than was stated: this master is silent until it is started again.
     ClockStepped,
     /// A reply of this server of a master was refused with this number.
     ServerRefused {
@@ -211,6 +212,14 @@ pub enum LogEvent {
     ServerSilent {
         server: u64,
     },
+    /// Readers of the shared file by `CLOCK_MONOTONIC` are told nothing, since it gained this against `CLOCK_MONOTONIC_RAW`
+    /// in a round, more than the setting `slew` allows. The rate is in parts per billion, the bound in parts per million.
+    SlewTooFast {
+        rate: Difference,
+        slew: u64,
+    },
+    /// Readers by `CLOCK_MONOTONIC` are told something again.
+    SlewInBounds,
 }
 
 impl LogEvent {
@@ -227,7 +236,8 @@ impl LogEvent {
             | LogEvent::MasterStarted { .. }
             | LogEvent::SourceResolved { .. }
             | LogEvent::KeysRead { .. }
-            | LogEvent::MasterAnswers => "info",
+            | LogEvent::MasterAnswers
+            | LogEvent::SlewInBounds => "info",
             LogEvent::ClockStepped
             | LogEvent::AssumptionBroken { .. }
             | LogEvent::HostSlept { .. }
@@ -283,6 +293,8 @@ impl LogEvent {
             LogEvent::ClockStepped => "clock_stepped",
             LogEvent::ServerRefused { .. } => "server_refused",
             LogEvent::ServerSilent { .. } => "server_silent",
+            LogEvent::SlewTooFast { .. } => "slew_too_fast",
+            LogEvent::SlewInBounds => "slew_in_bounds",
         }
     }
 }
@@ -291,7 +303,7 @@ impl LogEvent {
 /// name, its numbers and addresses, how many of its kind were left out before it if any were, and a line feed. As text it is like
 /// `time=2026-11-26T23:41:51.123456789Z level=warn event=fusion_refused number=504`, and as JSON like
 /// `{"time":"2026-11-26T23:41:51.123456789Z","level":"warn","event":"fusion_refused","number":504}`. Numbers of
-/// nanoseconds have names that end in `_ns`. Refuses only if it is out of memory; then the text may have a part of the
+/// nanoseconds have names that end in `_ns`, those of parts per million in `_ppm`. Refuses only if it is out of memory; then the text may have a part of the
 /// line at its end.
 pub fn push_event(
     text: &mut String,
@@ -387,6 +399,22 @@ fn push_field(
         LogFormat::Text => write!(text, " {name}={value}"),
         LogFormat::Json => write!(text, ",\"{name}\":{value}"),
     }
+}
+
+/// Adds a rate of an event, in parts per million.
+fn push_part(
+    text: &mut String,
+    format: LogFormat,
+    name: &str,
+    rate: Difference,
+) -> Result<(), AllocError>
+    ensures { OnOk result (string_bytes text.new ≡ string_bytes text.old ++ rate_field format name.now rate) }
+{
+    match format {
+        LogFormat::Text => write!(text, " {name}=")?,
+        LogFormat::Json => write!(text, ",\"{name}\":")?,
+    }
+    push_rate(text, rate)
 }
 
 /// Adds the address of an event.
@@ -488,6 +516,10 @@ fn push_fields(text: &mut String, format: LogFormat, event: LogEvent) -> Result<
             push_field(text, format, "number", number)
         }
         LogEvent::ServerSilent { server } => push_field(text, format, "server", server),
+        LogEvent::SlewTooFast { rate, slew } => {
+            push_part(text, format, "rate_ppm", rate)?;
+            push_field(text, format, "slew_ppm", slew)
+        }
         _ => Ok(()),
     }
 }

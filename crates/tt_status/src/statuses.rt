@@ -9,6 +9,7 @@ use crate::digits::Difference;
 use crate::histograms::{Histogram, push_histogram};
 use crate::lines::RefusedFusion;
 use crate::metrics::{Kind, Outcome, Row, Subject, Value, push_head, push_rows, push_sample};
+use crate::slewings::{Slewing, push_slewing};
 use std::alloc::AllocError;
 use tt_seal::SealFault;
 use tt_source::SourceFault;
@@ -153,6 +154,8 @@ pub struct Status {
     pub slept: u64,
     /// Whether it would not be seen that the host sleeps: the last look failed.
     pub sleep_unseen: bool,
+    /// How the slewed clock goes, and what readers by it are told.
+    pub slewing: Slewing,
     /// Whether a shared file is written. It is not if there is none, or if its writing has ended.
     pub sharing: bool,
     /// How many sessions have ended.
@@ -272,6 +275,7 @@ pub fn push_status(text: &mut String, status: &Status) -> Result<(), AllocError>
     push_rounds(text, status)?;
     push_refusals(text, status)?;
     push_breaks(text, status)?;
+    push_slewing(text, status.machine, &status.slewing)?;
     push_clients(text, status)?;
     push_workers(text, status)?;
     push_histograms(text, status)?;
