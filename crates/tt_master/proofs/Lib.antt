@@ -1,2 +1,2 @@
 pub mod Answering
-pub mod Stepping
+pub mod Watching

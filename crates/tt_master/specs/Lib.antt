@@ -6,4 +6,4 @@ pub mod Master
 pub mod Silence
 pub mod SpanReference
 pub mod SpanMaster
-pub mod Step
+pub mod Watch

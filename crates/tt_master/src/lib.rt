@@ -25,7 +25,8 @@
 //! - `span_masters`: [`SpanMaster`], with its calls [`answer`](SpanMaster::answer) and
 //!   [`answer2`](SpanMaster::answer2). [`stated_span`] is the interval of a reading and its uncertainty.
 //! - `silences`: why a reference states no interval, and why a request is then not answered.
-//! - `steps`: [`StepWatch`], which notices that the real-time clock was stepped.
+//! - `watches`: [`RealTimeWatch`], which notices that the real-time clock was stepped, or that it can't be as near to true time as
+//!   was stated.
 #![tactic(auto)]
 
 mod acts;
@@ -39,7 +40,7 @@ mod span_masters;
 mod span_memory;
 mod span_references;
 mod spans;
-mod steps;
+mod watches;
 
 pub use acts::Act;
 pub use faults::{MasterFault, RefFault};
@@ -51,4 +52,4 @@ pub use span_masters::SpanMaster;
 pub use span_memory::MemorySpanReference;
 pub use span_references::SpanReference;
 pub use spans::{act_laws, stated_span};
-pub use steps::{StepWatch, step_laws};
+pub use watches::{RealTimeWatch, watch_laws};

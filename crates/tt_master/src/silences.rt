@@ -30,8 +30,8 @@ pub enum Silence {
     /// The servers disagree: no time is possible.
     #[error("the servers disagree")]
     Disagreed,
-    /// The real-time clock was stepped.
-    #[error("the real-time clock was stepped")]
+    /// The clock was stepped, or is off by more than was stated.
+    #[error("the clock was stepped, or is off by more than was stated")]
     Stepped,
 }
 

@@ -7,6 +7,7 @@ ghost use Rattle.tt_stream.specs.Counts.{HasFailed};
 ghost use Rattle.ttd_masters.specs.Clocks.{shown_at};
 
 use std::time::{Clock as SystemClock, Duration};
+use tt_host::{DeviceClock, HostClock, HostClocks};
 use tt_master::{RefFault, Reference};
 use tt_publish::{Clock, ClockFault};
 use tt_span::MAX_TIME;
@@ -80,6 +81,26 @@ impl<'a, R: SystemClock> Reference for RealTime<'a, R> {
     fn failures(&self) -> u64 {
         self.failures
     }
+}
+
+/// The nanoseconds of a second.
+const SECOND: u64 = 1_000_000_000;
+
+/// The UTC that a hardware clock shows, in nanoseconds since 1970, where TAI, which it has, is so many seconds ahead. None if
+/// it can't be read, or would show a time before 1970 or past [`MAX_TIME`].
+pub(crate) fn device_time(clock: &DeviceClock, tai_offset: u64) -> Option<u64>
+    ensures in_time { IfSome result (λ time. time ≤ max_time) }
+{
+    let ahead = tai_offset.saturating_mul(SECOND);
+    shown_at(Offset::Earlier(ahead), clock.read().ok()?)
+}
+
+/// What `CLOCK_MONOTONIC` shows, in nanoseconds, which Linux slews as it slews the real-time clock. None if it can't be read,
+/// or shows a time past [`MAX_TIME`].
+pub(crate) fn slewed_time<R: HostClocks>(rt: &R) -> Option<u64>
+    ensures in_time { IfSome result (λ time. time ≤ max_time) }
+{
+    shown_at(Offset::Later(0), rt.read_clock(HostClock::Monotonic).ok()?)
 }
 
 /// The clock of a machine: this computer's monotonic clock, in nanoseconds. A read fails if that clock can't be read,

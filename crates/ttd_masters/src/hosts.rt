@@ -1,15 +1,13 @@
 //! What the threads that ask NTP servers want of this computer.
 
-use std::fs::{File, Files};
 use std::io;
 use std::net::{Net, SocketAddr, UdpSocket};
 use std::random::RandomSource;
-use std::time::Clock as SystemClock;
-use tt_host::{Sleep, SleepWatch};
+use tt_host::{HostClocks, Sleep, SleepWatch};
 
-/// What asking servers wants of this computer. It stands in place of `Files`, `Net` and `RandomSource`, since a thread that is
+/// What asking servers wants of this computer. It stands in place of `Net` and `RandomSource`, since a thread that is
 /// started cannot take with it a bound that names a type.
-pub trait AsksServers {
+pub trait AsksServers: HostClocks {
     /// A socket at this address of its own.
     fn bind(&self, own: SocketAddr) -> io::Result<UdpSocket>;
 
@@ -20,7 +18,7 @@ pub trait AsksServers {
     fn look(&self, watch: &mut SleepWatch) -> Sleep;
 }
 
-impl<R: SystemClock + Files<File = File> + Net + RandomSource> AsksServers for R {
+impl<R: HostClocks + Net + RandomSource> AsksServers for R {
     fn bind(&self, own: SocketAddr) -> io::Result<UdpSocket> {
         UdpSocket::bind(self, own)
     }

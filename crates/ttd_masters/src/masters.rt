@@ -11,7 +11,7 @@ use crate::key_files::{KeyFile, say_refusal};
 use crate::links::AnsweringLink;
 use crate::pauses::{FIRST_PAUSE, Looks, next_pause};
 use crate::players::{Acting, Honest, Player, take_turn};
-use crate::references::{KnownTime, StatedTime};
+use crate::references::{DeviceTime, KnownTime, StatedTime};
 use crate::sealed_masters::{Sealed, answer_sealed};
 use crate::standing::open_status;
 use crate::telling::told_by;
@@ -22,13 +22,13 @@ use std::sync::Wait;
 use std::thread;
 use std::time::{Clock as SystemClock, Duration};
 use tt_files::Reason;
-use tt_host::ServiceHost;
+use tt_host::{DeviceClock, ServiceHost};
 use tt_keys::KeysFault;
 use tt_master::{Act, Master, SpanMaster};
 use tt_poll::MAX_SOURCE;
 use tt_report::{Disk, Reporter, ReporterFault};
 use tt_seal::Key;
-use tt_span::MAX_TIME;
+use tt_span::{Drift, MAX_TIME};
 use tt_status::{LogEvent, LogFormat};
 use ttd_words::MasterTime;
 
@@ -57,17 +57,21 @@ pub struct MasterPlan<'a> {
     pub status: Option<&'a str>,
 }
 
-/// Answers polls until the process is ended: by this computer's clock, or by what NTP servers say. Where acts were given, it
+/// Answers polls until the process is ended: by a clock of this computer, or by what NTP servers say. Where acts were given, it
 /// does one act for each poll that comes, in their order, and the last one for all further polls; they are for tests. A failure
 /// of the link or of the clock is logged, and it goes on after a pause. The log and the status are written by threads of their
 /// own, for which no poll waits.
+///
+/// It measures by the monotonic clock of `rt`, which has to be one that nobody slews: `CLOCK_MONOTONIC_RAW`
+/// ([`ByClock`](tt_host::ByClock)).
 ///
 /// With a file of keys it answers polls from any address that are sealed under one of the keys, each under the key of the
 /// poll, and nothing else. Without one it answers open polls of this host.
 ///
 /// Refuses with 1601 `BadPlan` where the source is above [`MAX_SOURCE`] or the uncertainty is above [`MAX_TIME`]; with 2211
 /// to 2216 or 1 where the file of keys is refused; with 1816 or 1 where a thread can't be started; with what refuses the NTP
-/// servers ([`servers_of`]); and with 1501 `CannotListen` where the socket can't be opened, unless its address is not up.
+/// servers ([`servers_of`]); with 1604 `ReadFailed` where the hardware clock can't be opened; and with 1501 `CannotListen` where
+/// the socket can't be opened, unless its address is not up.
 pub fn serve_polls<H: ServiceHost + Disk + AsksServers>(
     rt: &H,
     plan: MasterPlan<'_>,
@@ -127,6 +131,7 @@ fn player_of<'a, H: ServiceHost + AsksServers>(
     match plan.time {
         MasterTime::Stated {
             uncertainty,
+            drift,
             offset,
             acts,
         } => {
@@ -138,12 +143,45 @@ fn player_of<'a, H: ServiceHost + AsksServers>(
                 let master = Master::new(source, *uncertainty, clock);
                 return Ok(Player::Acting(Acting::new(master, acts.as_slice())));
             }
-            let known = KnownTime::Stated(StatedTime::new(rt, *offset, *uncertainty));
+            let known = KnownTime::Stated(StatedTime::new(rt, *offset, *uncertainty, *drift));
+            Ok(honest(source, known, plan.warn_width))
+        }
+        MasterTime::Device {
+            path,
+            tai_offset,
+            uncertainty,
+            drift,
+        } => {
+            let known = device_at(rt, *path, *tai_offset, *uncertainty, *drift)?;
             Ok(honest(source, known, plan.warn_width))
         }
         MasterTime::Ntp(time) => {
             let known = servers_of(rt, reporter, time)?;
             Ok(honest(source, known, plan.warn_width))
+        }
+    }
+}
+
+/// The hardware clock at this path. If it can't be opened, standard error says why.
+fn device_at<'a, H: SystemClock + Files<File = File> + Eprint>(
+    rt: &'a H,
+    path: &str,
+    tai_offset: u64,
+    uncertainty: u64,
+    drift: Drift,
+) -> Result<KnownTime<'a, H>, StartFault> {
+    if uncertainty > MAX_TIME {
+        return Err(StartFault::BadPlan);
+    }
+    match DeviceClock::open(rt, path) {
+        Ok(clock) => {
+            let known = DeviceTime::new(rt, clock, tai_offset, uncertainty, drift);
+            Ok(KnownTime::Device(known))
+        }
+        Err(error) => {
+            let fault = StartFault::ReadFailed(Reason::of(&error));
+            let _ = eprint!(rt; "ttd: {path}: {fault}\n");
+            Err(fault)
         }
     }
 }

@@ -1,19 +1,19 @@
-//! From what a master knows the time: this computer's clock, or NTP servers.
+//! From what a master knows the time: a clock of this computer, or NTP servers.
 
 ghost use Rattle.std.specs.Prelude.{◌≡◌, ◌≤◌};
 ghost use Rattle.tt_span.specs.Time.{max_time};
 
-use crate::clocks::{Monotonic, RealTime};
+use crate::clocks::{Monotonic, RealTime, device_time, slewed_time};
 use crate::hosts::AsksServers;
 use crate::upstreams::{SharedServer, Upstream};
 use std::sync::Wait;
 use std::time::Clock as SystemClock;
 use tt_fuse::check_counts;
-use tt_host::{Sleep, SleepWatch};
-use tt_master::{Reference, Silence, SpanReference, StepWatch, stated_span};
+use tt_host::{DeviceClock, Sleep, SleepWatch};
+use tt_master::{RealTimeWatch, Reference, Silence, SpanReference, stated_span};
 use tt_publish::Clock;
 use tt_report::Reporter;
-use tt_span::{MAX_TIME, Span};
+use tt_span::{Drift, MAX_TIME, Span};
 use tt_status::LogEvent;
 use tt_upstream::fused;
 use ttd_words::Offset;
@@ -21,45 +21,144 @@ use ttd_words::Offset;
 /// The most servers of a master.
 pub(crate) const MAX_SERVERS: usize = 16;
 
-/// This computer's real-time clock, which is off by no more than an uncertainty, and a watch for its steps.
+/// A time, and what a clock showed before and after it was read, all in nanoseconds.
+#[derive(Clone, Copy)]
+struct Look {
+    before: u64,
+    time: u64,
+    after: u64,
+}
+
+impl Look {
+    /// Whether the watch finds this look explained by what is allowed. Says `Clock` where the clock fell meanwhile, and `Stepped`
+    /// where it does not.
+    fn pass(&self, watch: &mut RealTimeWatch) -> Result<(), Silence>
+        requires { self.now.time ≤ max_time }
+    {
+        if self.after < self.before || self.after > MAX_TIME {
+            return Err(Silence::Clock);
+        }
+        if watch.look(self.before, self.time, self.after) {
+            return Err(Silence::Stepped);
+        }
+        Ok(())
+    }
+}
+
+/// This computer's real-time clock, which is off by no more than an uncertainty, and watches for its steps and of what was stated.
 #[derive(Drop)]
 pub(crate) struct StatedTime<'a, H> {
+    rt: &'a H,
     real: RealTime<'a, H>,
     monotonic: Monotonic<'a, H>,
     uncertainty: u64,
-    watch: StepWatch,
+    steps: RealTimeWatch,
+    statement: RealTimeWatch,
 }
 
 impl<'a, H: SystemClock> StatedTime<'a, H> {
-    /// The real-time clock with this offset and this uncertainty, in nanoseconds.
-    pub(crate) fn new(rt: &'a H, offset: Offset, uncertainty: u64) -> Self {
+    /// The real-time clock with this offset and this uncertainty, in nanoseconds, beside an oscillator with this drift.
+    pub(crate) fn new(rt: &'a H, offset: Offset, uncertainty: u64, drift: Drift) -> Self
+        requires { uncertainty ≤ max_time }
+    {
         StatedTime {
+            rt,
             real: RealTime::new(rt, offset),
             monotonic: Monotonic::new(rt),
             uncertainty,
-            watch: StepWatch::new(),
+            steps: RealTimeWatch::of_steps(),
+            statement: RealTimeWatch::of_statement(uncertainty, drift),
         }
     }
 }
 
-impl<'a, H: SystemClock> SpanReference for StatedTime<'a, H> {
+impl<'a, H: SystemClock + AsksServers> SpanReference for StatedTime<'a, H> {
     ghost gives = { λ _ _ _. Unit {0} };
 
     /// The time of the clock, plus and minus the uncertainty. Says `Clock` where a clock can't be read, and `Stepped` from the
-    /// first step of the real-time clock on.
+    /// first step of the real-time clock on, and from when it can't be as near to true time as was stated.
     fn read(&mut self) -> Result<Span, Silence> {
-        let (Ok(before), Ok(time), Ok(after)) = (
+        let (Ok(before), Some(slewed), Ok(time), Some(slewed_after), Ok(after)) = (
             self.monotonic.read(),
+            slewed_time(self.rt),
             self.real.read(),
+            slewed_time(self.rt),
             self.monotonic.read(),
         ) else {
             return Err(Silence::Clock);
         };
-        if after < before || after > MAX_TIME || self.uncertainty > MAX_TIME {
+        let beside_slewed = Look {
+            before: slewed,
+            time,
+            after: slewed_after,
+        };
+        let look = Look {
+            before,
+            time,
+            after,
+        };
+        beside_slewed.pass(&mut self.steps)?;
+        look.pass(&mut self.statement)?;
+        if self.uncertainty > MAX_TIME {
             return Err(Silence::Clock);
         }
-        if self.watch.look(before, time, after) {
-            return Err(Silence::Stepped);
+        Ok(stated_span(self.uncertainty, time))
+    }
+}
+
+/// A hardware clock of this computer, which is off by no more than an uncertainty, and a watch of what was stated.
+#[derive(Drop)]
+pub(crate) struct DeviceTime<'a, H> {
+    clock: DeviceClock,
+    tai_offset: u64,
+    monotonic: Monotonic<'a, H>,
+    uncertainty: u64,
+    statement: RealTimeWatch,
+}
+
+impl<'a, H: SystemClock> DeviceTime<'a, H> {
+    /// This clock, which shows TAI, so many seconds ahead of UTC, with this uncertainty in nanoseconds, beside an oscillator with
+    /// this drift.
+    pub(crate) fn new(
+        rt: &'a H,
+        clock: DeviceClock,
+        tai_offset: u64,
+        uncertainty: u64,
+        drift: Drift,
+    ) -> Self
+        requires { uncertainty ≤ max_time }
+    {
+        DeviceTime {
+            clock,
+            tai_offset,
+            monotonic: Monotonic::new(rt),
+            uncertainty,
+            statement: RealTimeWatch::of_statement(uncertainty, drift),
+        }
+    }
+}
+
+impl<'a, H: SystemClock> SpanReference for DeviceTime<'a, H> {
+    ghost gives = { λ _ _ _. Unit {0} };
+
+    /// The time of the clock, plus and minus the uncertainty. Says `Clock` where a clock can't be read, and `Stepped` from when
+    /// it can't be as near to true time as was stated.
+    fn read(&mut self) -> Result<Span, Silence> {
+        let (Ok(before), Some(time), Ok(after)) = (
+            self.monotonic.read(),
+            device_time(&self.clock, self.tai_offset),
+            self.monotonic.read(),
+        ) else {
+            return Err(Silence::Clock);
+        };
+        let look = Look {
+            before,
+            time,
+            after,
+        };
+        look.pass(&mut self.statement)?;
+        if self.uncertainty > MAX_TIME {
+            return Err(Silence::Clock);
         }
         Ok(stated_span(self.uncertainty, time))
     }
@@ -152,8 +251,10 @@ impl<'a, H: Wait + SystemClock + AsksServers> SpanReference for NtpServers<'a, H
 /// From what a master knows the time.
 #[derive(Drop)]
 pub(crate) enum KnownTime<'a, H> {
-    /// From this computer's clock.
+    /// From this computer's real-time clock.
     Stated(StatedTime<'a, H>),
+    /// From a hardware clock.
+    Device(DeviceTime<'a, H>),
     /// From NTP servers.
     Ntp(NtpServers<'a, H>),
 }
@@ -164,6 +265,7 @@ impl<'a, H: Wait + SystemClock + AsksServers> SpanReference for KnownTime<'a, H>
     fn read(&mut self) -> Result<Span, Silence> {
         match self {
             KnownTime::Stated(clock) => clock.read(),
+            KnownTime::Device(clock) => clock.read(),
             KnownTime::Ntp(servers) => servers.read(),
         }
     }

@@ -18,9 +18,9 @@ use Rattle.tt_settings.specs.Socket.{address_of, is_loopback}
 use Rattle.tt_keys.specs.Line.{is_name}
 use Rattle.tt_settings.specs.Form.{log_format_of}
 use Rattle.tt_settings.specs.Numeral.{number_of as amount_of}
-use Rattle.ttd_words.specs.CommandLine.{max_columns, max_faulty, max_id, min_columns}
+use Rattle.ttd_words.specs.CommandLine.{max_columns, max_faulty, max_id, max_tai_offset, min_columns}
 use Rattle.ttd_words.specs.Fault.{◌>>=◌, id_of}
-use Rattle.ttd_words.specs.Reading.{AtPath, refuse_if, act_of, age_at, drift_at, duration_at, duration_if, faulty_at, faulty_of, has_twice, flag_at, key_at, key_of_both, no_ntp_option, no_ntp_options, no_stated_option, ntp_of, number_if, number_or, offset_if, server_if, servers_fit, servers_in, stated_of, time_by, time_of, acts_at, acts_in, ask_of, has_byte, id_at, id_if, key_of, listen_at, listen_if, log_at, master_of, name_at, name_if, number_at, number_to, offset_by, place_at, place_by, place_in, read_of, serve_of, service_of, text_at, time_behind, top_of, columns_if, up_to}
+use Rattle.ttd_words.specs.Reading.{AtPath, refuse_if, act_of, age_at, drift_at, duration_at, duration_if, faulty_at, faulty_of, has_twice, flag_at, key_at, key_of_both, no_ntp_option, no_ntp_options, no_stated_option, no_real_option, real_of, device_of, clock_of, tai_offset_of, ntp_of, number_if, number_or, offset_if, server_if, servers_fit, servers_in, stated_of, time_by, time_of, acts_at, acts_in, ask_of, has_byte, id_at, id_if, key_of, listen_at, listen_if, log_at, master_of, name_at, name_if, number_at, number_to, offset_by, place_at, place_by, place_in, read_of, serve_of, service_of, text_at, time_behind, top_of, columns_if, up_to}
 use Rattle.ttd_words.specs.declared.faults.Given.{Given}
 use Rattle.ttd_words.specs.declared.faults.Given.TheVariants as given
 use Rattle.ttd_words.specs.declared.faults.TimeOption.{TimeOption}
@@ -150,18 +150,47 @@ no_ntp_options_fair rows =
     then_fair (no_ntp_option option.Faulty rows) _ (no_ntp_fair option.Faulty rows) (λ a.
     then_fair (no_ntp_option option.Margin rows) _ (no_ntp_fair option.Margin rows) (λ b.
     then_fair (no_ntp_option option.Every rows) _ (no_ntp_fair option.Every rows) (λ c.
-    then_fair (no_ntp_option option.Drift rows) _ (no_ntp_fair option.Drift rows) (λ d.
     then_fair (no_ntp_option option.MaxAge rows) _ (no_ntp_fair option.MaxAge rows) (λ e.
     then_fair (no_ntp_option option.NtpKey rows) _ (no_ntp_fair option.NtpKey rows) (λ f.
-    then_fair (no_ntp_option option.NtpKeys rows) _ (no_ntp_fair option.NtpKeys rows) (λ g. refuse_if_fair (flag_at (codes "local") rows) (given.WithoutNtp option.Local))))))))
+    then_fair (no_ntp_option option.NtpKeys rows) _ (no_ntp_fair option.NtpKeys rows) (λ g. refuse_if_fair (flag_at (codes "local") rows) (given.WithoutNtp option.Local)))))))
+
+real_fair : (uncertainty drift : ℕ) (rows : List Row) → IsFair (real_of uncertainty drift rows)
+unfolding real_of
+real_fair uncertainty drift rows =
+    then_fair (refuse_if (is_some (first_of (codes "tai-offset") rows)) given.TaiOffsetAlone) _
+    (refuse_if_fair (is_some (first_of (codes "tai-offset") rows)) given.TaiOffsetAlone) (λ alone.
+    then_fair (offset_if (first_of (codes "offset") rows)) _ (offset_if_fair (first_of (codes "offset") rows)) (λ offset.
+    then_fair (acts_at (all_of (codes "act") rows)) _ (acts_fair (all_of (codes "act") rows)) (λ acts. tt)))
+
+no_real_fair : (option : TimeOption) (rows : List Row) → IsFair (no_real_option option rows)
+no_real_fair option rows = refuse_if_fair (is_some (first_of (id_of option) rows)) (given.WithPhc option)
+
+tai_offset_fair : (o : Option ℕ) → IsFair (tai_offset_of o)
+tai_offset_fair None = λ e. cc
+tai_offset_fair (Some n) = go (nat_le n max_tai_offset)
+  where
+    go : (b : Bool) → IsFair (cond b (Ok n) (Err BadWords))
+    go true = tt
+    go false = bad_words
+
+device_fair : (path : Text) (uncertainty drift : ℕ) (rows : List Row) → IsFair (device_of path uncertainty drift rows)
+unfolding device_of
+device_fair path uncertainty drift rows =
+    then_fair (no_real_option option.Offset rows) _ (no_real_fair option.Offset rows) (λ no_offset.
+    then_fair (no_real_option option.Act rows) _ (no_real_fair option.Act rows) (λ no_act.
+    then_fair (tai_offset_of (number_at (codes "tai-offset") rows)) _ (tai_offset_fair (number_at (codes "tai-offset") rows)) (λ tai_offset. tt)))
+
+clock_fair : (uncertainty drift : ℕ) (o : Option Text) (rows : List Row) → IsFair (clock_of uncertainty drift o rows)
+clock_fair uncertainty drift None rows = real_fair uncertainty drift rows
+clock_fair uncertainty drift (Some path) rows = device_fair path uncertainty drift rows
 
 stated_fair : (rows : List Row) → IsFair (stated_of rows)
 unfolding stated_of
 stated_fair rows =
     then_fair (no_ntp_options rows) _ (no_ntp_options_fair rows) (λ alone.
     then_fair (number_to (codes "uncertainty") max_time rows) _ (up_to_fair max_time (number_at (codes "uncertainty") rows)) (λ uncertainty.
-    then_fair (offset_if (first_of (codes "offset") rows)) _ (offset_if_fair (first_of (codes "offset") rows)) (λ offset.
-    then_fair (acts_at (all_of (codes "act") rows)) _ (acts_fair (all_of (codes "act") rows)) (λ acts. tt))))
+    then_fair (drift_at rows) _ (number_or_fair max_drift default_drift (number_at (codes "drift") rows)) (λ drift.
+    clock_fair uncertainty drift (first_of (codes "phc") rows) rows)))
 
 server_fair : (o : Option SocketAddr) → IsFair (server_if o)
 server_fair None = λ e. cc
@@ -224,6 +253,8 @@ key_at_fair rows =
 ntp_fair : (texts : List Text) (rows : List Row) → IsFair (ntp_of texts rows)
 unfolding ntp_of
 ntp_fair texts rows =
+    then_fair (no_stated_option option.Phc rows) _ (no_stated_fair option.Phc rows) (λ no_phc.
+    then_fair (no_stated_option option.TaiOffset rows) _ (no_stated_fair option.TaiOffset rows) (λ no_tai_offset.
     then_fair (no_stated_option option.Offset rows) _ (no_stated_fair option.Offset rows) (λ no_offset.
     then_fair (no_stated_option option.Act rows) _ (no_stated_fair option.Act rows) (λ no_act.
     then_fair (servers_fit texts) _ (servers_fit_fair texts) (λ fit.
@@ -233,7 +264,7 @@ ntp_fair texts rows =
     then_fair (drift_at rows) _ (number_or_fair max_drift default_drift (number_at (codes "drift") rows)) (λ drift.
     then_fair (age_at rows) _ (age_fair rows) (λ max_age.
     then_fair (key_at rows) _ (key_at_fair rows) (λ key.
-    then_fair (servers_in texts) _ (servers_in_fair texts) (λ servers. tt))))))))))
+    then_fair (servers_in texts) _ (servers_in_fair texts) (λ servers. tt))))))))))))
 
 time_by_fair : (stated : Bool) (ntp : Option (List Text)) (rows : List Row) → IsFair (time_by stated ntp rows)
 time_by_fair true None rows = stated_fair rows

@@ -99,9 +99,17 @@ unfoldable pub stated_master_app : App
 stated_master_app = with_rule (with_rule (with_rule plain_master_app (number_rule (codes "uncertainty") max_time)) (free_rule (codes "offset")))
     (many_rule (codes "act"))
 
+-- The most seconds that TAI may be ahead of UTC.
+abbrev pub max_tai_offset : ℕ
+max_tai_offset = 100
+
+-- The command `master` with these and the options of a hardware clock.
+unfoldable pub device_master_app : App
+device_master_app = with_rule (with_rule stated_master_app (free_rule (codes "phc"))) (number_rule (codes "tai-offset") max_tai_offset)
+
 -- The command `master` with these and the servers, and which of them may be wrong by what.
 unfoldable pub ntp_master_app : App
-ntp_master_app = with_rule (with_rule (with_rule stated_master_app (many_rule (codes "ntp"))) (number_rule (codes "faulty") max_faulty))
+ntp_master_app = with_rule (with_rule (with_rule device_master_app (many_rule (codes "ntp"))) (number_rule (codes "faulty") max_faulty))
     (number_rule (codes "margin") max_time)
 
 -- The command `master` with these and how often and how long servers are trusted.
@@ -181,7 +189,7 @@ servers_app = with_subcommand (with_subcommand inputs_app master_app.top) serve_
 
 -- The program with all its commands.
 unfoldable pub ttd_app : App
-unfolding age_app twin_app plain_master_app stated_master_app ntp_master_app paced_master_app asking_master_app master_app serve_app ask_app read_app plain_top_app top_app key_app bare_app sources_app runs_app inputs_app servers_app
+unfolding age_app twin_app plain_master_app stated_master_app device_master_app ntp_master_app paced_master_app asking_master_app master_app serve_app ask_app read_app plain_top_app top_app key_app bare_app sources_app runs_app inputs_app servers_app
 ttd_app = with_subcommand (with_subcommand (with_subcommand (with_subcommand servers_app ask_app.top) read_app.top) top_app.top) key_app.top
 
 -- What clap finds wrong with the words: nothing where it takes them, and else the kinds of error that it may answer.

@@ -3,18 +3,19 @@ use Rattle.std.specs.Prelude.{ℕ, List, codes, Result, Ok, Err}
 use Rattle.ttd_words.specs.declared.faults.Given.{Given}
 use Rattle.ttd_words.specs.declared.faults.Given.TheVariants.{NotLocal, Address}
 use Rattle.ttd_words.specs.declared.faults.TimeOption.{TimeOption}
-use Rattle.ttd_words.specs.declared.faults.TimeOption.TheVariants.{Offset, Act, Faulty, Margin, Every, Drift, MaxAge, NtpKey, NtpKeys, Local}
+use Rattle.ttd_words.specs.declared.faults.TimeOption.TheVariants.{Phc, TaiOffset, Offset, Act, Faulty, Margin, Every, MaxAge, NtpKey, NtpKeys, Local}
 use Rattle.ttd_words.specs.declared.faults.WordsFault.{WordsFault}
 use Rattle.ttd_words.specs.declared.faults.WordsFault.TheVariants.{BadWords, BadValue, Memory}
 
 -- The name of an option of `master` that only one kind of its time has, without its hyphens.
 abbrev pub id_of : TimeOption → List ℕ
+id_of Phc = codes "phc"
+id_of TaiOffset = codes "tai-offset"
 id_of Offset = codes "offset"
 id_of Act = codes "act"
 id_of Faulty = codes "faulty"
 id_of Margin = codes "margin"
 id_of Every = codes "every"
-id_of Drift = codes "drift"
 id_of MaxAge = codes "max-age"
 id_of NtpKey = codes "ntp-key"
 id_of NtpKeys = codes "ntp-keys"

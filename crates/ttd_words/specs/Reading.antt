@@ -27,7 +27,7 @@ use Rattle.tt_settings.specs.Form.{log_format_of}
 use Rattle.tt_settings.specs.Numeral.{number_of as amount_of}
 use Rattle.tt_settings.specs.Socket.{address_of, is_loopback}
 use Rattle.tt_keys.specs.Line.{is_name}
-use Rattle.ttd_words.specs.CommandLine.{faults_of, max_columns, max_faulty, max_id, max_number, min_columns, named_by, names_service}
+use Rattle.ttd_words.specs.CommandLine.{faults_of, max_columns, max_faulty, max_tai_offset, max_id, max_number, min_columns, named_by, names_service}
 use Rattle.ttd_words.specs.Fault.{◌>>=◌, id_of}
 use Rattle.ttd_words.specs.declared.requests.Asked.{Asked}
 use Rattle.ttd_words.specs.declared.requests.Asked.TheVariants as asks
@@ -99,12 +99,14 @@ pub record NtpPlan : Type 0 where
 
 -- What the time of a master stands on, without its memory.
 pub data Time : Type 0 where
-  Stated : ℕ → Offset → List Act → Time
+  Stated : ℕ → ℕ → Offset → List Act → Time
+  ByDevice : Text → ℕ → ℕ → ℕ → Time
   ByServers : NtpPlan → Time
 
 -- What the time of a master stands on.
 abbrev pub time_meant : MasterTime → Time
-time_meant (time.Stated uncertainty offset acts) = Stated uncertainty offset acts.items
+time_meant (time.Stated uncertainty drift offset acts) = Stated uncertainty drift offset acts.items
+time_meant (time.Device path tai_offset uncertainty drift) = ByDevice path.now tai_offset uncertainty drift
 time_meant (time.Ntp ntp) = ByServers (record {
   servers = ntp.servers.items;
   faulty = ntp.faulty;
@@ -280,20 +282,52 @@ no_ntp_options rows = do
   faulty ← no_ntp_option option.Faulty rows
   margin ← no_ntp_option option.Margin rows
   every ← no_ntp_option option.Every rows
-  drift ← no_ntp_option option.Drift rows
   age ← no_ntp_option option.MaxAge rows
   key ← no_ntp_option option.NtpKey rows
   keys ← no_ntp_option option.NtpKeys rows
   refuse_if (flag_at (codes "local") rows) (given.WithoutNtp option.Local)
+
+-- The drift that was given, and that of a machine where none was given.
+abbrev pub drift_at : List Row → Result ℕ WordsFault
+drift_at rows = number_or max_drift default_drift (number_at (codes "drift") rows)
+
+-- This computer's real-time clock with this uncertainty and drift by what was found.
+unfoldable pub real_of : ℕ → ℕ → List Row → Result Time WordsFault
+real_of uncertainty drift rows = do
+  alone ← refuse_if (is_some (first_of (codes "tai-offset") rows)) given.TaiOffsetAlone
+  offset ← offset_if (first_of (codes "offset") rows)
+  acts ← acts_at (all_of (codes "act") rows)
+  Ok (Stated uncertainty drift offset acts)
+
+-- The refusal of an option of the real-time clock, where it was given.
+abbrev pub no_real_option : TimeOption → List Row → Result (Unit {0}) WordsFault
+no_real_option option rows = refuse_if (is_some (first_of (id_of option) rows)) (given.WithPhc option)
+
+-- How far TAI is ahead of UTC, where it was given.
+abbrev pub tai_offset_of : Option ℕ → Result ℕ WordsFault
+tai_offset_of None = Err (BadValue given.PhcAlone)
+tai_offset_of (Some n) = if nat_le n max_tai_offset then Ok n else Err BadWords
+
+-- The hardware clock at this path with this uncertainty and drift by what was found.
+unfoldable pub device_of : Text → ℕ → ℕ → List Row → Result Time WordsFault
+device_of path uncertainty drift rows = do
+  no_offset ← no_real_option option.Offset rows
+  no_act ← no_real_option option.Act rows
+  tai_offset ← tai_offset_of (number_at (codes "tai-offset") rows)
+  Ok (ByDevice path tai_offset uncertainty drift)
+
+-- A clock with this uncertainty and drift by what was found: that of the device, where one was given.
+abbrev pub clock_of : ℕ → ℕ → Option Text → List Row → Result Time WordsFault
+clock_of uncertainty drift None rows = real_of uncertainty drift rows
+clock_of uncertainty drift (Some path) rows = device_of path uncertainty drift rows
 
 -- A stated uncertainty by what was found.
 unfoldable pub stated_of : List Row → Result Time WordsFault
 stated_of rows = do
   alone ← no_ntp_options rows
   uncertainty ← number_to (codes "uncertainty") max_time rows
-  offset ← offset_if (first_of (codes "offset") rows)
-  acts ← acts_at (all_of (codes "act") rows)
-  Ok (Stated uncertainty offset acts)
+  drift ← drift_at rows
+  clock_of uncertainty drift (first_of (codes "phc") rows) rows
 
 -- An address of an NTP server: one with a port above 0.
 abbrev pub server_if : Option SocketAddr → Result SocketAddr WordsFault
@@ -333,10 +367,6 @@ faulty_at servers rows = do
   faulty ← number_or max_faulty 0 (number_at (codes "faulty") rows)
   faulty_of servers faulty
 
--- The drift that was given, and that of a machine where none was given.
-abbrev pub drift_at : List Row → Result ℕ WordsFault
-drift_at rows = number_or max_drift default_drift (number_at (codes "drift") rows)
-
 -- A time from a millisecond to a day, of which a wrong one is refused as this.
 abbrev pub duration_if : Given → Option ℕ → Result ℕ WordsFault
 duration_if refusal (Some time) = if nat_le 1000000 time && nat_le time 86400000000000 then Ok time else Err (BadValue refusal)
@@ -371,6 +401,8 @@ key_at rows = do
 -- NTP servers by their texts and what was found.
 unfoldable pub ntp_of : List Text → List Row → Result Time WordsFault
 ntp_of texts rows = do
+  no_phc ← no_stated_option option.Phc rows
+  no_tai_offset ← no_stated_option option.TaiOffset rows
   no_offset ← no_stated_option option.Offset rows
   no_act ← no_stated_option option.Act rows
   fit ← servers_fit texts

@@ -4,13 +4,13 @@ ghost use Rattle.std.specs.Prelude.{◌≡◌, IfOk, false};
 ghost use Rattle.clap.specs.Simple.{new_app, with_rule};
 ghost use Rattle.clap.specs.Words.{app_of, rule_of};
 ghost use Rattle.clap.specs.declared.builder.command.Command.TheViews.{out-Command};
-ghost use Rattle.ttd_words.specs.CommandLine.{age_app, ask_app, asking_master_app, key_app, master_app, ntp_master_app, paced_master_app, plain_master_app, plain_top_app, read_app, serve_app, stated_master_app, top_app, twin_app};
+ghost use Rattle.ttd_words.specs.CommandLine.{age_app, ask_app, asking_master_app, device_master_app, key_app, master_app, ntp_master_app, paced_master_app, plain_master_app, plain_top_app, read_app, serve_app, stated_master_app, top_app, twin_app};
 
 use crate::help::{ABOUT_AGE, ABOUT_TWIN};
 use crate::options::{
     columns_option, drift_option, faulty_option, flag, free_option, given_option, id_option,
     line_words, log_option, many_option, master_drift_option, place, retry_option, source_option,
-    text_option, time_option,
+    tai_offset_option, text_option, time_option,
 };
 use crate::service_help::{ABOUT_ASK, ABOUT_KEY, ABOUT_MASTER, ABOUT_READ, ABOUT_SERVE, ABOUT_TOP};
 use clap::{Arg, Command};
@@ -111,7 +111,7 @@ fn plain_master_command<'a>(alloc: Global) -> Result<Command<'a>, AllocError>
     let bare = plain_command(
         alloc,
         "master",
-        "Runs a time master, which answers polls by this computer's clock or by NTP servers",
+        "Runs a time master, which answers polls by a clock of this computer or by NTP servers",
         ABOUT_MASTER,
     );
     let source = source_option(alloc);
@@ -134,13 +134,13 @@ fn stated_master_command<'a>(alloc: Global) -> Result<Command<'a>, AllocError>
     let uncertainty = time_option(
         alloc,
         "uncertainty",
-        "Answers by this computer's clock: what it may be wrong by, in nanoseconds",
+        "Answers by a clock of this computer: what it may be wrong by, in nanoseconds",
     );
     let offset = free_option(
         alloc,
         "offset",
         "NS",
-        "How far this clock is ahead, in nanoseconds; behind: --offset=-NS [default: 0]",
+        "How far the real-time clock is ahead, in nanoseconds; behind: --offset=-NS [default: 0]",
     );
     let act = many_option(
         alloc,
@@ -151,13 +151,29 @@ fn stated_master_command<'a>(alloc: Global) -> Result<Command<'a>, AllocError>
     with_three(plain, uncertainty, offset, act)
 }
 
+/// The command `master` with these and the options of a hardware clock.
+#[tactic(auto, unfolding(crate::specs::CommandLine::device_master_app))]
+fn device_master_command<'a>(alloc: Global) -> Result<Command<'a>, AllocError>
+    ensures app { IfOk result (λ c. app_of c ≡ device_master_app) }
+    ensures local { IfOk result (λ c. (out-Command c).has_globals ≡ false) }
+{
+    let stated = stated_master_command(alloc)?;
+    let phc = free_option(
+        alloc,
+        "phc",
+        "PATH",
+        "Answers by this hardware clock in place of the real-time clock, as /dev/ptp0",
+    );
+    with_two(stated, phc, tai_offset_option(alloc))
+}
+
 /// The command `master` with these and the servers, and which of them may be wrong by what.
 #[tactic(auto, unfolding(crate::specs::CommandLine::ntp_master_app))]
 fn ntp_master_command<'a>(alloc: Global) -> Result<Command<'a>, AllocError>
     ensures app { IfOk result (λ c. app_of c ≡ ntp_master_app) }
     ensures local { IfOk result (λ c. (out-Command c).has_globals ≡ false) }
 {
-    let stated = stated_master_command(alloc)?;
+    let device = device_master_command(alloc)?;
     let ntp = many_option(
         alloc,
         "ntp",
@@ -170,7 +186,7 @@ fn ntp_master_command<'a>(alloc: Global) -> Result<Command<'a>, AllocError>
         "margin",
         "NTP: what a server may be wrong by beyond what it says, in nanoseconds [default: 0]",
     );
-    with_three(stated, ntp, faulty, margin)
+    with_three(device, ntp, faulty, margin)
 }
 
 /// The command `master` with these and how often and how long servers are trusted.

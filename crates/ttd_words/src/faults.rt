@@ -10,6 +10,12 @@ use thiserror::Error;
 /// An option of `master` that only one kind of its time has. It is shown as it is written.
 #[derive(Clone, Copy, Debug, PartialEq, Eq, Error)]
 pub enum TimeOption {
+    /// `--phc`, of a stated uncertainty.
+    #[error("--phc")]
+    Phc,
+    /// `--tai-offset`, of a stated uncertainty.
+    #[error("--tai-offset")]
+    TaiOffset,
     /// `--offset`, of a stated uncertainty.
     #[error("--offset")]
     Offset,
@@ -25,9 +31,6 @@ pub enum TimeOption {
     /// `--every`, of NTP servers.
     #[error("--every")]
     Every,
-    /// `--drift`, of NTP servers.
-    #[error("--drift")]
-    Drift,
     /// `--max-age`, of NTP servers.
     #[error("--max-age")]
     MaxAge,
@@ -75,6 +78,15 @@ pub enum Given {
     /// An option of `master` that goes with `--ntp` alone, beside `--uncertainty`.
     #[error("invalid arguments: {0} goes with --ntp, and not with --uncertainty")]
     WithoutNtp(TimeOption),
+    /// An option of `master` that goes with this computer's real-time clock alone, beside `--phc`.
+    #[error("invalid arguments: {0} goes without --phc")]
+    WithPhc(TimeOption),
+    /// `--phc` of `master` without `--tai-offset`.
+    #[error("invalid arguments: --phc PATH needs --tai-offset N")]
+    PhcAlone,
+    /// `--tai-offset` of `master` without `--phc`.
+    #[error("invalid arguments: --tai-offset N needs --phc PATH")]
+    TaiOffsetAlone,
     /// `--ntp` of `master`, which is no address with a port above 0.
     #[error("invalid arguments: --ntp is an address and a port above 0, as 10.0.0.1:123 or [fd00::1]:123")]
     Ntp,
@@ -113,12 +125,13 @@ impl TimeOption {
         ensures { result.now ≡ id_of self }
     {
         match self {
+            TimeOption::Phc => "phc",
+            TimeOption::TaiOffset => "tai-offset",
             TimeOption::Offset => "offset",
             TimeOption::Act => "act",
             TimeOption::Faulty => "faulty",
             TimeOption::Margin => "margin",
             TimeOption::Every => "every",
-            TimeOption::Drift => "drift",
             TimeOption::MaxAge => "max-age",
             TimeOption::NtpKey => "ntp-key",
             TimeOption::NtpKeys => "ntp-keys",

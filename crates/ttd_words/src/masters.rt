@@ -6,11 +6,13 @@ ghost use Rattle.clap.specs.Words.{found_of, rows_of};
 ghost use Rattle.tt_settings.specs.Duration.{duration_of as duration_in};
 ghost use Rattle.tt_settings.specs.Socket.{address_of as address_in};
 ghost use Rattle.ttd_words.specs.CommandLine.{max_faulty};
-ghost use Rattle.ttd_words.specs.Reading.{IsTimeMeant, age_at, drift_at, duration_at, duration_if, faulty_at, faulty_of, has_twice, is_among, key_at, no_ntp_option, no_ntp_options, no_stated_option, ntp_of, refuse_if, server_if, servers_fit, servers_in, stated_of, time_of};
+ghost use Rattle.ttd_words.specs.Reading.{number_at, IsTimeMeant, age_at, clock_of, device_of, drift_at, duration_at, duration_if, faulty_at, faulty_of, has_twice, is_among, key_at, no_ntp_option, no_ntp_options, no_real_option, no_stated_option, ntp_of, real_of, refuse_if, server_if, servers_fit, servers_in, stated_of, tai_offset_of, time_of};
 
 use crate::faults::{Given, TimeOption, WordsFault};
 use crate::requests::{MasterTime, NtpTime};
-use crate::values::{acts_at, flag_at, id_at, number_or, number_to, offset_at, path_at, texts_at};
+use crate::values::{
+    acts_at, flag_at, id_at, number_if, number_or, number_to, offset_at, path_at, texts_at,
+};
 use clap::ArgMatches;
 use std::alloc::Global;
 use std::net::SocketAddr;
@@ -20,6 +22,9 @@ use tt_span::{Drift, MAX_DRIFT, MAX_SOURCES, MAX_TIME};
 
 /// The most of at most [`MAX_SOURCES`] servers that may be wrong.
 pub(crate) const MOST_FAULTY: u64 = 7;
+
+/// The most seconds that TAI may be ahead of UTC.
+pub(crate) const MOST_TAI_OFFSET: u64 = 100;
 
 /// The shortest time that an option takes, in nanoseconds: a millisecond.
 const LEAST_DURATION: u64 = 1_000_000;
@@ -68,7 +73,6 @@ fn no_ntp_options(matches: &ArgMatches<'_>) -> Result<(), WordsFault>
     no_ntp_option(matches, TimeOption::Faulty)?;
     no_ntp_option(matches, TimeOption::Margin)?;
     no_ntp_option(matches, TimeOption::Every)?;
-    no_ntp_option(matches, TimeOption::Drift)?;
     no_ntp_option(matches, TimeOption::MaxAge)?;
     no_ntp_option(matches, TimeOption::NtpKey)?;
     no_ntp_option(matches, TimeOption::NtpKeys)?;
@@ -78,20 +82,83 @@ fn no_ntp_options(matches: &ArgMatches<'_>) -> Result<(), WordsFault>
     )
 }
 
-/// This computer's clock as what a master stands on.
+/// This computer's real-time clock as what a master stands on.
+#[tactic(auto, unfolding(crate::specs::Reading::real_of))]
+fn real_asked<'a>(
+    alloc: Global,
+    matches: &ArgMatches<'a>,
+    uncertainty: u64,
+    drift: Drift,
+) -> Result<MasterTime<'a>, WordsFault>
+    ensures { IsTimeMeant (real_of uncertainty drift (rows_of (found_of matches.now))) result }
+{
+    refuse_if(
+        path_at(matches, "tai-offset").is_some(),
+        Given::TaiOffsetAlone,
+    )?;
+    let offset = offset_at(matches, "offset")?;
+    let acts = acts_at(alloc, matches, "act")?;
+    Ok(MasterTime::Stated {
+        uncertainty,
+        drift,
+        offset,
+        acts,
+    })
+}
+
+/// Refuses an option of the real-time clock that was given.
+fn no_real_option(matches: &ArgMatches<'_>, option: TimeOption) -> Result<(), WordsFault>
+    ensures { result ≡ no_real_option option (rows_of (found_of matches.now)) }
+{
+    refuse_if(
+        path_at(matches, option.id()).is_some(),
+        Given::WithPhc(option),
+    )
+}
+
+/// How far TAI is ahead of UTC, in seconds, which has to be given.
+fn tai_offset_at(matches: &ArgMatches<'_>) -> Result<u64, WordsFault>
+    ensures { result ≡ tai_offset_of (number_at (codes "tai-offset") (rows_of (found_of matches.now))) }
+{
+    match number_if(matches, "tai-offset", MOST_TAI_OFFSET)? {
+        Some(tai_offset) => Ok(tai_offset),
+        None => Err(WordsFault::BadValue(Given::PhcAlone)),
+    }
+}
+
+/// The hardware clock at this path as what a master stands on.
+#[tactic(auto, unfolding(crate::specs::Reading::device_of))]
+fn device_asked<'a>(
+    matches: &ArgMatches<'a>,
+    path: &'a str,
+    uncertainty: u64,
+    drift: Drift,
+) -> Result<MasterTime<'a>, WordsFault>
+    ensures { IsTimeMeant (device_of path.entry.now uncertainty drift (rows_of (found_of matches.now))) result }
+{
+    no_real_option(matches, TimeOption::Offset)?;
+    no_real_option(matches, TimeOption::Act)?;
+    let tai_offset = tai_offset_at(matches)?;
+    Ok(MasterTime::Device {
+        path,
+        tai_offset,
+        uncertainty,
+        drift,
+    })
+}
+
+/// A clock of this computer as what a master stands on: the device that was given, or else the real-time clock.
 #[tactic(auto, unfolding(crate::specs::Reading::stated_of))]
 fn stated_asked<'a>(alloc: Global, matches: &ArgMatches<'a>) -> Result<MasterTime<'a>, WordsFault>
     ensures { IsTimeMeant (stated_of (rows_of (found_of matches.now))) result }
 {
     no_ntp_options(matches)?;
     let uncertainty = number_to(matches, "uncertainty", MAX_TIME)?;
-    let offset = offset_at(matches, "offset")?;
-    let acts = acts_at(alloc, matches, "act")?;
-    Ok(MasterTime::Stated {
-        uncertainty,
-        offset,
-        acts,
-    })
+    let drift = drift_at(matches)?;
+    match path_at(matches, "phc") {
+        Some(path) => device_asked(matches, path, uncertainty, drift),
+        None => real_asked(alloc, matches, uncertainty, drift),
+    }
 }
 
 /// The address in this text, if it has a port above 0.
@@ -235,6 +302,8 @@ fn ntp_asked<'a>(
 ) -> Result<MasterTime<'a>, WordsFault>
     ensures { IsTimeMeant (ntp_of (texts given.now) (rows_of (found_of matches.now))) result }
 {
+    no_stated_option(matches, TimeOption::Phc)?;
+    no_stated_option(matches, TimeOption::TaiOffset)?;
     no_stated_option(matches, TimeOption::Offset)?;
     no_stated_option(matches, TimeOption::Act)?;
     check_servers(given)?;
@@ -258,7 +327,7 @@ fn ntp_asked<'a>(
     }))
 }
 
-/// What a master stands on: this computer's clock, or NTP servers.
+/// What a master stands on: a clock of this computer, or NTP servers.
 pub(crate) fn time_asked<'a>(
     alloc: Global,
     matches: &ArgMatches<'a>,

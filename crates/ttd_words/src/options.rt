@@ -7,9 +7,9 @@ ghost use Rattle.tt_span.specs.Drift.{max_drift};
 ghost use Rattle.tt_span.specs.Time.{max_time};
 ghost use Rattle.tt_poll.specs.Message.{max_source};
 ghost use Rattle.tt_daemon.specs.Config.{default_drift};
-ghost use Rattle.ttd_words.specs.CommandLine.{columns_rule, drift_rule, flag_rule, free_rule, given_rule, id_rule, log_rule, many_rule, max_faulty, needed_rule, number_rule, place_rule, retry_rule, text_rule, words_rule};
+ghost use Rattle.ttd_words.specs.CommandLine.{columns_rule, drift_rule, flag_rule, free_rule, given_rule, id_rule, log_rule, many_rule, max_faulty, max_tai_offset, needed_rule, number_rule, place_rule, retry_rule, text_rule, words_rule};
 
-use crate::masters::MOST_FAULTY;
+use crate::masters::{MOST_FAULTY, MOST_TAI_OFFSET};
 use crate::values::{LEAST_COLUMNS, MOST_COLUMNS, MOST_ID};
 use crate::words::MOST_RETRY;
 use clap::{Arg, ArgAction, value_parser};
@@ -48,7 +48,7 @@ pub(crate) fn master_drift_option<'a>(alloc: Global) -> Arg<'a>
         alloc,
         "drift",
         "N",
-        "NTP: what the monotonic clock may be wrong by, in parts per million, up to 100000 [default: 200]",
+        "What this computer's oscillator may be wrong by, in parts per million, up to 100000 [default: 200]",
     )
     .value_parser(value_parser!(u64).range(..=i64::from(MAX_DRIFT)))
 }
@@ -121,6 +121,20 @@ pub(crate) fn time_option<'a>(alloc: Global, name: &'a str, help: &'a str) -> Ar
     ensures local { result.global ≡ false }
 {
     free_option(alloc, name, "NS", help).value_parser(value_parser!(u64).range(..=MAX_TIME as i64))
+}
+
+/// The option `--tai-offset N`: at most [`MOST_TAI_OFFSET`].
+pub(crate) fn tai_offset_option<'a>(alloc: Global) -> Arg<'a>
+    ensures rule { rule_of result ≡ number_rule (codes "tai-offset") max_tai_offset }
+    ensures local { result.global ≡ false }
+{
+    free_option(
+        alloc,
+        "tai-offset",
+        "N",
+        "With --phc: how many seconds TAI, which it shows, is ahead of UTC, up to 100",
+    )
+    .value_parser(value_parser!(u64).range(..=MOST_TAI_OFFSET as i64))
 }
 
 /// The option `--faulty N`: at most [`MOST_FAULTY`].

@@ -85,10 +85,23 @@ pub enum MasterTime<'a> {
     Stated {
         /// What the clock may be wrong by, in nanoseconds, at most [`MAX_TIME`](tt_span::MAX_TIME).
         uncertainty: u64,
+        /// The drift of this computer's oscillator: [`DEFAULT_DRIFT`](tt_daemon::DEFAULT_DRIFT) if it was not given.
+        drift: Drift,
         /// How far the clock is off on purpose.
         offset: Offset,
         /// Its acts, at least one: one for each poll in order, and the last one for all further polls.
         acts: Vec<Act>,
+    },
+    /// A hardware clock of this computer, which shows TAI, and how wrong its operator says that it may be.
+    Device {
+        /// The path of its device.
+        path: &'a str,
+        /// How far TAI is ahead of UTC, in seconds, at most 100.
+        tai_offset: u64,
+        /// What the clock may be wrong by, in nanoseconds, at most [`MAX_TIME`](tt_span::MAX_TIME).
+        uncertainty: u64,
+        /// The drift of this computer's oscillator: [`DEFAULT_DRIFT`](tt_daemon::DEFAULT_DRIFT) if it was not given.
+        drift: Drift,
     },
     /// What NTP servers say.
     Ntp(NtpTime<'a>),
@@ -105,7 +118,7 @@ pub struct NtpTime<'a> {
     pub margin: u64,
     /// The time from one request to the next, in nanoseconds, from a millisecond to a day. None: it was not given.
     pub every: Option<u64>,
-    /// The drift of this computer's clock: [`DEFAULT_DRIFT`](tt_daemon::DEFAULT_DRIFT) if it was not given.
+    /// The drift of this computer's oscillator: [`DEFAULT_DRIFT`](tt_daemon::DEFAULT_DRIFT) if it was not given.
     pub drift: Drift,
     /// The greatest age of a reply, in nanoseconds, from a millisecond to a day: 1024 seconds if it was not given.
     pub max_age: u64,

@@ -9,13 +9,16 @@ standard input.
 
 The interval is right as far as what it stands on is, which is one of two:
   --uncertainty  this computer's real-time clock, moved by --offset, and what you say that it may be
-                 wrong by, both ways. --offset and --act go with it.
+                 wrong by, both ways. --offset and --act go with it. With --phc it is a hardware
+                 clock, such as that of a network card which ptp4l keeps, less --tai-offset. It is
+                 silent once a clock was stepped, or can't be as near to true time as you say while
+                 this computer's oscillator keeps --drift; it is started again then.
   --ntp          NTP servers, up to 16, each with an --ntp of its own, by its IPv4 or IPv6 address
                  and a port. Each reply says how wrong its server may be; the interval widens by
                  --drift from reply to reply. A server says nothing before its first reply, when its
                  last reply is older than --max-age, when that is refused, and around a leap second.
-                 --faulty, --margin, --every, --drift, --max-age, --ntp-key, --ntp-keys and --local
-                 go with it.
+                 --faulty, --margin, --every, --max-age, --ntp-key, --ntp-keys and --local go with
+                 it.
 With --faulty N, at most N of the servers may be wrong; there are more than twice as many servers.
 No poll is answered while more than N servers say nothing, or while they disagree. --margin widens
 each reply, against a server that is wrong by more than it says. A server is asked each --every.
@@ -41,6 +44,7 @@ Acts, for tests: honest (which it is without --act), silent, garbage, repeat, 'a
 Examples:
   ttd master --source 0 --listen 127.0.0.1:7001 --uncertainty 1000000
   ttd master --source 0 --listen 10.0.0.1:7001 --uncertainty 1000000 --keys /etc/truetime/keys
+  ttd master --source 0 --listen 127.0.0.1:7001 --phc /dev/ptp0 --tai-offset 37 --uncertainty 10000
   ttd master --source 0 --listen 127.0.0.1:7001 --ntp 127.0.0.1:123
   ttd master --source 0 --listen 127.0.0.1:7001 --ntp 10.0.0.5:123 --ntp 10.0.0.6:123
     --ntp [fd00::7]:123 --faulty 1 --every 64s --margin 100000 --warn-width 50000000
@@ -52,7 +56,9 @@ Refused:
   2211          the file of keys can't be read; the status is 4
   2212, 2213    its mode is neither 0600 nor 0400, or its owner is another user
   2214 to 2216  it is too long; a line is no key, or has the number of an earlier one
-  1604, 1603    the file of --ntp-keys can't be read (the status is 4); it is too long or not UTF-8
+  1604          the file of --ntp-keys can't be read, or the clock of --phc not be opened; the status
+                is 4
+  1603          the file of --ntp-keys is too long or not UTF-8
   2411 to 2414  it has no line with the number of --ntp-key; that line is no key
   1829          the system gives no random bytes; the status is 4
   1831          the stack is limited to less than 2 MiB

@@ -60,10 +60,13 @@ fn given_mistake(
 ) -> Result<String, AllocError> {
     match given {
         Given::NoTime => missing_mistake(alloc, "<--uncertainty <NS>|--ntp <ADDRESS:PORT>>"),
+        Given::PhcAlone => missing_mistake(alloc, "--tai-offset <N>"),
+        Given::TaiOffsetAlone => missing_mistake(alloc, "--phc <PATH>"),
         Given::NtpKeyAlone => missing_mistake(alloc, "--ntp-keys <FILE>"),
         Given::NtpKeysAlone => missing_mistake(alloc, "--ntp-key <N>"),
         Given::BothTimes => pair_mistake(alloc, &"--uncertainty <NS>", "--ntp <ADDRESS:PORT>"),
         Given::WithNtp(option) => pair_mistake(alloc, &option, "--ntp <ADDRESS:PORT>"),
+        Given::WithPhc(option) => pair_mistake(alloc, &option, "--phc <PATH>"),
         Given::WithoutNtp(option) => pair_mistake(alloc, &option, "--uncertainty <NS>"),
         _ => value_mistake(alloc, matches, given),
     }

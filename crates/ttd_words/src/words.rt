@@ -241,7 +241,8 @@ pub(crate) fn parsed<'a>(alloc: Global, words: &'a [&'a str]) -> Result<ArgMatch
 /// and a port. Where `ask` or `top` is given a text with a `/`, or one that has no `:` and is not empty, that is the path
 /// of a Unix socket, or of a status file. The columns of `top` are from 40 to 300.
 ///
-/// A master has exactly one of an uncertainty and NTP servers, and no option of the other. The address of a server is as
+/// A master has exactly one of an uncertainty and NTP servers, and no option of the other. A hardware clock and how far TAI is
+/// ahead are given together, and without the options of the real-time clock. The address of a server is as
 /// that at which a master listens, of any host, with a port above 0. There are at most 16, none twice, and more than
 /// twice as many as may be faulty. A time has a unit, as [`duration_of`](tt_settings::duration_of) reads it, and is from
 /// a millisecond to a day. The key of NTP and its file are given together.
