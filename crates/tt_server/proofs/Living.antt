@@ -84,7 +84,7 @@ some-epoch does before after epoch takes = subst HasNumber takes.2 (steps-number
 
 -- a life that was made of these settings has them
 pub has-settings : (settings : Meaning) (epoch : ℕ) (made current : Current)
-    → made ≡ record { machine = settings.machine; epoch = epoch; config = settings.config; pauses = settings.pauses; lease = settings.lease; stampers = settings.stampers; on_break = settings.on_break; max_width = widest_in settings.max_width } → current ≡ made → 0 < epoch → epoch < 2 ^ 64 → HasSettings settings current
+    → made ≡ record { machine = settings.machine; epoch = epoch; config = settings.config; pauses = settings.pauses; lease = settings.lease; stampers = settings.stampers; on_break = settings.on_break; max_width = widest_in settings.max_width; clock = settings.clock; slew = settings.slew } → current ≡ made → 0 < epoch → epoch < 2 ^ 64 → HasSettings settings current
 has-settings settings epoch made current is same some below =
     let e = same ∙ is in
     record {
@@ -95,6 +95,8 @@ has-settings settings epoch made current is same some below =
       stampers = ap (λ (l : Current). l.stampers) e;
       on_break = ap (λ (l : Current). l.on_break) e;
       max_width = ap (λ (l : Current). l.max_width) e;
+      clock = ap (λ (l : Current). l.clock) e;
+      slew = ap (λ (l : Current). l.slew) e;
       first = subst (λ (n : ℕ). 0 < n) (sym (ap (λ (l : Current). l.epoch) e)) some;
       last = subst (λ (n : ℕ). n < 2 ^ 64) (sym (ap (λ (l : Current). l.epoch) e)) below;
     }

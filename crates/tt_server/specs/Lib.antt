@@ -8,3 +8,4 @@ pub mod Life
 pub mod Thread
 pub mod Evidence
 pub mod Descriptor
+pub mod Watch

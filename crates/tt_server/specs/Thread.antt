@@ -26,7 +26,7 @@ pub record AreReady (settings : Meaning) (source : Source) (watches : List Watch
   pub room : most ≡ settings.config.workers
   pub new : All (λ watch. watch ≡ new_watch source settings.config.drift) watches
 
--- this life has an epoch of 64 bits that is not 0, and the number, the configuration, the pauses, the lease, the stampers and the limits of these settings
+-- this life has an epoch of 64 bits that is not 0, and the number, the configuration, the pauses, the lease, the stampers, the limits and the clock of these settings
 pub record HasSettings (settings : Meaning) (life : Current) : Type 0 where
   pub machine : life.machine ≡ settings.machine
   pub config : life.config ≡ settings.config
@@ -35,5 +35,7 @@ pub record HasSettings (settings : Meaning) (life : Current) : Type 0 where
   pub stampers : life.stampers ≡ settings.stampers
   pub on_break : life.on_break ≡ settings.on_break
   pub max_width : life.max_width ≡ widest_in settings.max_width
+  pub clock : life.clock ≡ settings.clock
+  pub slew : life.slew ≡ settings.slew
   pub first : 0 < life.epoch
   pub last : life.epoch < 2 ^ 64

@@ -26,8 +26,8 @@ use tt_health::{
     BreakRecord, breaks_in_a_row, breaks_recorded, pause_before_start, record_after, record_of,
     record_text,
 };
+use tt_host::read_start;
 use tt_report::Reporter;
-use tt_shared::read_start;
 use tt_status::LogEvent;
 
 /// The most bytes of a record that are read.

@@ -59,6 +59,7 @@ mod servers;
 mod sharers;
 mod starts;
 mod states;
+mod watches;
 mod workers;
 
 pub use breaks::break_laws;

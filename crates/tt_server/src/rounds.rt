@@ -15,6 +15,7 @@ use crate::owns::Reach;
 use crate::paces::{pause_of, renewal_after, turns_of, waits_on};
 use crate::sharers::Shares;
 use crate::states::{ThreadContext, say};
+use crate::watches::{HostWatch, event_of_slewing, shared_by};
 use std::alloc::Global;
 use std::fs::{File, Files};
 use std::net::{Net, SocketAddr, UdpSocket};
@@ -22,7 +23,7 @@ use std::sync::{Arc, Wait};
 use std::time::Clock as SystemClock;
 use tt_connections::MachineClock;
 use tt_daemon::{Daemon, Fused, MAX_SOURCES};
-use tt_host::{GuestWatch, Sleep, SleepWatch};
+use tt_host::{HostClocks, Sleep};
 use tt_publish::{Clock, Teller};
 use tt_rounds::{NodeFault, RoundLink, RoundReport, Rounds, RoundsPlan, report_rounds};
 use tt_settings::OnBreak;
@@ -66,10 +67,7 @@ pub(crate) struct Poller<'a, R> {
     strangers: u64,
     /// What it has noticed so far.
     notices: Notices,
-    sleep: SleepWatch,
-    guest: GuestWatch,
-    /// The counter of a guest's disruptions, if the settings name one.
-    vmclock: Option<&'a str>,
+    host: HostWatch<'a>,
     /// The last publication, with its certificate.
     last: Option<Fused>,
     /// Whether it knows that an assumption is broken, and has to end.
@@ -100,9 +98,7 @@ impl<'a, R> Poller<'a, R> {
             seals: [NO_SEALS; MAX_SOURCES],
             strangers: 0,
             notices: Notices::new(),
-            sleep: SleepWatch::new(),
-            guest: GuestWatch::new(),
-            vmclock,
+            host: HostWatch::new(vmclock),
             last: None,
             broken: false,
         }
@@ -348,7 +344,7 @@ fn compare<R: Wait + SystemClock + Files<File = File>>(
 }
 
 /// Looks whether the host slept, and whether a guest was disrupted.
-fn look_at_host<R: Wait + SystemClock + Files<File = File>>(
+fn look_at_host<R: Wait + SystemClock + HostClocks + Files<File = File>>(
     context: ThreadContext<'_, R>,
     poller: &mut Poller<'_, R>,
     now: u64,
@@ -357,9 +353,9 @@ fn look_at_host<R: Wait + SystemClock + Files<File = File>>(
     ensures wire { poller.new.polled.link.hearing.wire ≡ poller.old.polled.link.hearing.wire }
     ensures totals { poller.new.totals ≡ poller.old.totals }
     ensures renewal { poller.new.renewal ≡ poller.old.renewal }
-    ensures unseen { poller.new.notices.sleep_unseen ≡ poller.new.sleep }
+    ensures unseen { poller.new.notices.sleep_unseen ≡ poller.new.host.sleep }
 {
-    match poller.sleep.look(context.rt) {
+    match poller.host.sleep.look(context.rt) {
         Sleep::Awake => {}
         Sleep::Slept(slept) => {
             poller.notices.slept = poller.notices.slept.saturating_add(slept);
@@ -367,12 +363,34 @@ fn look_at_host<R: Wait + SystemClock + Files<File = File>>(
         }
         Sleep::Unseen => say(context, LogEvent::SleepUnseen),
     }
-    if let Some(path) = poller.vmclock {
-        if poller.guest.look(context.rt, path) {
+    if let Some(path) = poller.host.vmclock {
+        if poller.host.guest.look(context.rt, path) {
             break_off(context, poller, LogEvent::GuestDisrupted, now);
         }
     }
-    poller.notices.sleep_unseen = poller.sleep.is_blind();
+    poller.notices.sleep_unseen = poller.host.sleep.is_blind();
+}
+
+/// Looks how fast `CLOCK_MONOTONIC` goes, if the machine's clock is another. It is logged when that clock begins to go faster or
+/// slower than the settings allow, and when that is over.
+fn look_at_slewed<R: Wait + SystemClock + HostClocks>(
+    context: ThreadContext<'_, R>,
+    poller: &mut Poller<'_, R>,
+)
+    ensures same { poller.new.daemon ≡ poller.old.daemon }
+    ensures wire { poller.new.polled.link.hearing.wire ≡ poller.old.polled.link.hearing.wire }
+    ensures totals { poller.new.totals ≡ poller.old.totals }
+    ensures renewal { poller.new.renewal ≡ poller.old.renewal }
+    ensures told { poller.new.notices.slewing ≡ poller.new.host.slew.slewing }
+{
+    let life = &context.server.life;
+    let news = poller
+        .host
+        .look_at_slewed(context.rt, life.clock, life.slew);
+    poller.notices.slewing = poller.host.slew.slewing;
+    if let Some(event) = event_of_slewing(news, &poller.host.slew.slewing, life.slew) {
+        say(context, event);
+    }
 }
 
 /// Counts a round after which fewer than n - f sources have answered within three periods, and logs it once something is
@@ -431,6 +449,7 @@ fn hand_on<R: Wait + SystemClock + Files<File = File>>(
     }
     if let Some(span) = span {
         if !poller.broken {
+            let span = shared_by(&span, &poller.host.base, &context.server.life);
             poller.share.put(context.rt, &span, now);
         }
     }
@@ -446,7 +465,7 @@ fn hand_on<R: Wait + SystemClock + Files<File = File>>(
 
 /// Does all that follows a round, except the pause, when the clock shows `now`. What breaks an assumption is noticed
 /// first.
-fn settle<R: Wait + SystemClock + Files<File = File>>(
+fn settle<R: Wait + SystemClock + HostClocks + Files<File = File>>(
     context: ThreadContext<'_, R>,
     poller: &mut Poller<'_, R>,
     did: &Result<Rounds, NodeFault>,
@@ -461,6 +480,7 @@ fn settle<R: Wait + SystemClock + Files<File = File>>(
     let published = published_in(did, &poller.report);
     compare(context, poller, &records.shown, &published, now);
     look_at_host(context, poller, now);
+    look_at_slewed(context, poller);
     poller.unsent = unsent;
     hand_on(context, poller, records, now);
     count_stale(context, poller, now);
@@ -506,7 +526,7 @@ fn show<R: Wait + SystemClock + Files<File = File>>(
 }
 
 /// Makes one round and does all that follows it, except the pause.
-fn go_round<R: Wait + SystemClock + Files<File = File>>(
+fn go_round<R: Wait + SystemClock + HostClocks + Files<File = File>>(
     context: ThreadContext<'_, R>,
     poller: &mut Poller<'_, R>,
     clock: &mut MachineClock<'_, R>,
@@ -569,7 +589,7 @@ fn end<R: Wait + SystemClock + Files<File = File>>(
 /// Makes the rounds of the daemon until the machine ends, each before a pause, or until it knows that an assumption is
 /// broken. After a round in which the socket failed,
 /// it is made anew after the pause. Requires: nothing is published yet.
-pub(crate) fn run_daemon<R: Wait + SystemClock + Files<File = File> + Net>(
+pub(crate) fn run_daemon<R: Wait + SystemClock + HostClocks + Files<File = File> + Net>(
     context: ThreadContext<'_, R>,
     poller: &mut Poller<'_, R>,
     clock: &mut MachineClock<'_, R>,
@@ -587,6 +607,7 @@ pub(crate) fn run_daemon<R: Wait + SystemClock + Files<File = File> + Net>(
     let (rt, server) = (context.rt, context.server);
     let began = now_of(clock);
     look_at_host(context, poller, began);
+    look_at_slewed(context, poller);
     for _ in rt.forever() {
         go_round(context, poller, clock, teller);
         if !poller.broken {

@@ -34,7 +34,7 @@ use std::thread::{JoinHandle, Scope, Threads};
 use std::time::Clock as SystemClock;
 use tt_connections::{Acceptor, Listener, Listeners, MachineClock, Sight, reading_of};
 use tt_epoch::{FolderStore, Store, next_epoch};
-use tt_host::descriptor_limit;
+use tt_host::{ByClock, descriptor_limit};
 use tt_publish::{Teller, Told, Watch};
 use tt_report::Pages;
 use tt_settings::Settings;
@@ -216,10 +216,7 @@ pub trait EndOfInput {
     fn wait_for_end(&self);
 }
 
-impl<R: Input> EndOfInput for R
-where
-    R::Reader: Read + Drop,
-{
+impl EndOfInput for HostRuntime {
     fn wait_for_end(&self) {
         let mut input = self.reader();
         let mut buffer = [0; 512];
@@ -229,6 +226,12 @@ where
                 _ => break,
             }
         }
+    }
+}
+
+impl<R: EndOfInput> EndOfInput for ByClock<R> {
+    fn wait_for_end(&self) {
+        self.handle().wait_for_end()
     }
 }
 
@@ -625,7 +628,7 @@ fn serve_opened<'n, 'e, R: ServerHost>(
         polling,
         link_waker,
     } = opened;
-    let limit = descriptor_limit(rt);
+    let limit = descriptor_limit();
     let listeners = listeners_of(rt, alloc, settings, front, waker, limit)?;
     let start = Start {
         settings,
@@ -642,7 +645,7 @@ fn serve_opened<'n, 'e, R: ServerHost>(
     ended
 }
 
-/// Runs one machine: it polls, fuses and publishes, and serves clients. It returns if the machine is not started. With
+/// Runs one machine: it polls, fuses and publishes, and serves clients. It measures by the monotonic clock of `rt`, which has to be the one that the settings name ([`ByClock`]). It returns if the machine is not started. With
 /// `until_eof` it ends the machine in order after the end of standard input, and returns. Otherwise it goes on until
 /// the process is ended.
 ///

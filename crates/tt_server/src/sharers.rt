@@ -12,6 +12,7 @@ use std::sync::{Arc, Wait};
 use std::thread::{self, Threads};
 use std::time::{Clock as SystemClock, Duration};
 use tt_connections::reading_of;
+use tt_host::HostClock;
 use tt_report::{Lane, Reporter};
 use tt_shared::SharedSpan;
 use tt_sharing::{Share, SharePath, Tried, ended_at, event_of_over, folder_and_name, hangs};
@@ -145,6 +146,8 @@ impl Shares {
 #[derive(Drop)]
 pub struct Sharer {
     path: String,
+    /// The clock of the file.
+    clock: HostClock,
     /// The pause between rounds, in nanoseconds.
     poll: u64,
     outbox: Arc<Outbox, Global>,
@@ -161,6 +164,7 @@ impl Sharer {
         let outbox = Arc::new(alloc, Outbox::new(alloc, clock_of(context.rt))?)?;
         let sharer = Sharer {
             path: String::from_str(alloc, path)?,
+            clock: server.life.clock,
             poll: server.life.pauses.poll,
             outbox: Arc::try_clone(&outbox)?,
             reporter: server.reporter.try_clone()?,
@@ -214,7 +218,12 @@ pub trait SharesFile {
 impl<R: Wait + SystemClock + Files<File = File>> SharesFile for R {
     fn share_all(&self, alloc: Global, sharer: &Sharer) {
         let (folder, name) = folder_and_name(sharer.path.as_str());
-        let mut share = Share::new(self, alloc, Some(SharePath { folder, name }));
+        let path = SharePath {
+            folder,
+            name,
+            clock: sharer.clock,
+        };
+        let mut share = Share::new(self, alloc, Some(path));
         sharer.open(self, &mut share);
         for _ in self.forever() {
             if let Some(handed) = sharer.outbox.newest.take(self) {

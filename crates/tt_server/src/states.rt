@@ -11,6 +11,7 @@ use std::thread::Parker;
 use std::time::{Clock as SystemClock, Duration};
 use tt_connections::{Counts, Listeners, Terms, WAIT_BOUNDS};
 use tt_daemon::Config;
+use tt_host::HostClock;
 use tt_report::Reporter;
 use tt_settings::{OnBreak, Pauses, Settings};
 use tt_span::Span;
@@ -31,6 +32,10 @@ pub(crate) struct Life {
     pub(crate) on_break: OnBreak,
     /// The widest reading that is given, in nanoseconds; 2^64 - 1 if there is no limit.
     pub(crate) max_width: u64,
+    /// The clock by which the machine measures.
+    pub(crate) clock: HostClock,
+    /// How much faster or slower `CLOCK_MONOTONIC` may go than that one, in parts per million, for readers that read it.
+    pub(crate) slew: u32,
 }
 
 /// The widest reading that is given where the settings have this limit, or none.
@@ -46,7 +51,7 @@ fn widest_in(limit: Option<u64>) -> u64
 impl Life {
     /// The life of this epoch, with these settings.
     pub(crate) fn of(settings: &Settings, epoch: u64) -> Life
-        ensures value { result ≡ record { machine = settings.now.machine; epoch = epoch; config = settings.now.config; pauses = settings.now.pauses; lease = settings.now.lease; stampers = settings.now.stampers; on_break = settings.now.on_break; max_width = widest_in settings.now.max_width } }
+        ensures value { result ≡ record { machine = settings.now.machine; epoch = epoch; config = settings.now.config; pauses = settings.now.pauses; lease = settings.now.lease; stampers = settings.now.stampers; on_break = settings.now.on_break; max_width = widest_in settings.now.max_width; clock = settings.now.clock; slew = settings.now.slew } }
     {
         Life {
             machine: settings.machine(),
@@ -57,6 +62,8 @@ impl Life {
             stampers: settings.stampers(),
             on_break: settings.on_break(),
             max_width: widest_in(settings.max_width()),
+            clock: settings.clock(),
+            slew: settings.slew(),
         }
     }
 

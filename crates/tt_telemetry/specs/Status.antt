@@ -4,6 +4,8 @@ use Rattle.std.specs.List.{list_any, range_with_len}
 use Rattle.tt_span.specs.Time.{max_time}
 use Rattle.tt_publish.specs.Reading.{reading_at}
 use Rattle.tt_publish.specs.declared.readings.FusedSpan.{FusedSpan}
+use Rattle.tt_host.specs.declared.slews.SlewRate.{SlewRate}
+use Rattle.tt_host.specs.declared.slews.Slewing.{Slewing as Slewed}
 use Rattle.tt_health.specs.Answers.{nth_newest}
 use Rattle.tt_health.specs.Rate.{new_track, rate_of}
 use Rattle.tt_health.specs.declared.answers.Answer.{Answer}
@@ -12,6 +14,7 @@ use Rattle.tt_rounds.specs.Awaiting.{unsent_at}
 use Rattle.tt_rounds.specs.Hearing.{opening_at}
 use Rattle.tt_rounds.specs.declared.openings.Opening.{Opening}
 use Rattle.tt_status.specs.declared.digits.Difference.{Difference}
+use Rattle.tt_status.specs.declared.slewings.Slewing.{Slewing}
 use Rattle.tt_status.specs.declared.statuses.SourceStatus.{SourceStatus}
 use Rattle.tt_status.specs.declared.statuses.Status.{Status}
 use Rattle.tt_telemetry.specs.Notice.{needed_by}
@@ -64,6 +67,15 @@ upper_in _ _ = None
 abbrev pub difference_in : Option Rate → Option Difference
 difference_in (Some rate) = Some (record { below = not rate.below; size = rate.size })
 difference_in None = None
+
+-- what the slewed clock gained, in parts of what the machine's went on
+abbrev pub gain_in : Option SlewRate → Option Difference
+gain_in None = None
+gain_in (Some rate) = Some (record { below = rate.below; size = rate.size })
+
+-- what is shown of how the slewed clock goes: its readers are told nothing as long as it is too fast
+abbrev pub slewing_in : Slewed → Slewing
+slewing_in slewing = record { rate = gain_in slewing.rate; is_withdrawn = slewing.is_too_fast; withdrawals = slewing.begun }
 
 -- the error of a rate
 abbrev pub error_in : Option Rate → Option ℕ
@@ -173,6 +185,7 @@ status_of machine t shown notices unsent seals strangers work now = record {
   broken_lives = machine.broken_lives;
   slept = notices.slept;
   sleep_unseen = notices.sleep_unseen;
+  slewing = slewing_in notices.slewing;
   sharing = machine.sharing;
   sessions = work.sessions;
   lines = work.lines;

@@ -25,4 +25,6 @@ pub use records::{
     About, Ends, Events, Outcome, RoundRecords, Shown, SourceTally, Totals, UnsentPackets,
     records_of, suspects_in,
 };
-pub use statuses::{Account, Machine, NO_SEALS, SourceNotice, SourceSeals, Work, status_of};
+pub use statuses::{
+    Account, Machine, NO_SEALS, SourceNotice, SourceSeals, Work, gain_in, status_of,
+};

@@ -15,6 +15,7 @@ use tt_health::{
     Answer, Sample, TRIP_BOUNDS, Track, WIDTH_BOUNDS, aged_last, answers_after, meets_last,
     nth_newest, trip_place, width_place,
 };
+use tt_host::Slewing;
 use tt_publish::FusedSpan;
 use tt_rounds::{SourceOutcome, SourceReport};
 use tt_sharing::fresh_until;
@@ -152,6 +153,8 @@ pub struct Notices {
     pub slept: u64,
     /// Whether the last look for that failed.
     pub sleep_unseen: bool,
+    /// How `CLOCK_MONOTONIC` is slewed.
+    pub slewing: Slewing,
 }
 
 /// Whether an answer was accepted.
@@ -171,6 +174,7 @@ impl Notices {
             breaks: 0,
             slept: 0,
             sleep_unseen: false,
+            slewing: Slewing::new(),
         }
     }
 

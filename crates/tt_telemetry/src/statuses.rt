@@ -2,15 +2,18 @@
 
 ghost use Rattle.std.specs.Prelude.{◌≡◌, ◌<◌};
 ghost use Rattle.tt_telemetry.specs.Records.{suspects_in};
-ghost use Rattle.tt_telemetry.specs.Status.{age_from, age_in, answered_in, difference_in, each_status, ends_in, error_in, is_among, lower_in, source_status, status_of, trip_in, upper_in, width_at, width_in};
+ghost use Rattle.tt_telemetry.specs.Status.{age_from, age_in, answered_in, difference_in, each_status, ends_in, error_in, gain_in, is_among, lower_in, slewing_in, source_status, status_of, trip_in, upper_in, width_at, width_in};
 
 use crate::notices::{Notices, needed_by};
 use crate::records::{Ends, Shown, SourceTally, Totals, suspects_in};
 use tt_daemon::{Config, MAX_SOURCES};
 use tt_health::{Answer, Rate, nth_newest};
+use tt_host::{SlewRate, Slewing};
 use tt_publish::FusedSpan;
 use tt_span::Drift;
-use tt_status::{Difference, Histogram, REASONS, SourceStatus, Status, UNOPENED};
+use tt_status::{
+    Difference, Histogram, REASONS, Slewing as SlewingStatus, SourceStatus, Status, UNOPENED,
+};
 
 /// Counts of what the sessions and the log have done so far, and of what waits.
 #[derive(Clone, Copy)]
@@ -137,6 +140,30 @@ fn difference_in(rate: &Option<Rate>) -> Option<Difference>
             size: rate.size,
         }),
         None => None,
+    }
+}
+
+/// What `CLOCK_MONOTONIC` gained against the machine's clock, in parts of what that went on.
+pub fn gain_in(rate: Option<SlewRate>) -> Option<Difference>
+    ensures value { result ≡ gain_in rate }
+{
+    match rate {
+        Some(rate) => Some(Difference {
+            below: rate.below,
+            size: rate.size,
+        }),
+        None => None,
+    }
+}
+
+/// What is shown of how `CLOCK_MONOTONIC` is slewed.
+fn slewing_in(slewing: &Slewing) -> SlewingStatus
+    ensures value { result ≡ slewing_in slewing.now }
+{
+    SlewingStatus {
+        rate: gain_in(slewing.rate),
+        is_withdrawn: slewing.is_too_fast,
+        withdrawals: slewing.begun,
     }
 }
 
@@ -325,6 +352,7 @@ pub fn status_of(machine: &Machine, account: &Account<'_>, work: &Work, now: u64
         broken_lives: machine.broken_lives,
         slept: notices.slept,
         sleep_unseen: notices.sleep_unseen,
+        slewing: slewing_in(&notices.slewing),
         sharing: machine.sharing,
         sessions: work.sessions,
         lines: work.lines,

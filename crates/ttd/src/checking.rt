@@ -114,12 +114,8 @@ fn push_name<H: HostNames>(
 }
 
 /// Adds how many descriptors this process may have, where that is known, and how many sessions they are enough for.
-fn push_limit<H: Files<File = File>>(
-    rt: &H,
-    text: &mut String,
-    settings: &Settings,
-) -> Result<(), AllocError> {
-    let Some(limit) = descriptor_limit(rt) else {
+fn push_limit(text: &mut String, settings: &Settings) -> Result<(), AllocError> {
+    let Some(limit) = descriptor_limit() else {
         return Ok(());
     };
     let sessions = sessions_within(Some(limit), settings.config().workers());
@@ -157,7 +153,7 @@ fn report<H: Files<File = File> + HostNames>(
     settings: &Settings,
 ) -> Result<String, AllocError> {
     let mut text = outline(alloc, settings)?;
-    push_limit(rt, &mut text, settings)?;
+    push_limit(&mut text, settings)?;
     push_found(rt, &mut text, settings)?;
     Ok(text)
 }

@@ -36,15 +36,17 @@ use program::{reject, run};
 use stacks::check_stack;
 use std::alloc::AllocError;
 use std::process::ExitCode;
+use tt_host::{ByClock, HostClock};
 use tt_stream::Counted;
 use ttd_words::{WordsFault, explain, refuse};
 
 fn main(rt: HostRuntime) -> ExitCode {
+    let by_clock = ByClock::new(rt, HostClock::Monotonic);
     let mut input = Counted::new(rt.stdin());
     let mut output = Counted::new(rt.stdout());
     let status = match words_given(&rt) {
         Ok(words) => match check_stack(&rt, words.as_slice()) {
-            Ok(()) => run(&rt, words.as_slice(), &mut input, &mut output),
+            Ok(()) => run(&by_clock, words.as_slice(), &mut input, &mut output),
             Err(fault) => {
                 explain(&rt, u64::from(fault.number()), &fault);
                 refuse(&mut output, fault.number(), fault.status())

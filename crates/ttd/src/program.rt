@@ -15,6 +15,7 @@ use crate::services::serve;
 use crate::watching::Screen;
 use std::io::Eprint;
 use std::rt::Env;
+use tt_host::ByClocks;
 use tt_server::ServerHost;
 use tt_stream::{ByteReader, ByteWriter};
 use ttd_commands::asked_by;
@@ -24,12 +25,11 @@ use ttd_words::{Asked, Status, WordsFault, explain, mistake_text, refuse, usage_
 /// Runs the program with these arguments: does what they ask for, and answers how the program ends. Standard error says
 /// what a refusal means. What it keeps on the stack is taken when it is called.
 #[inline(never)]
-pub(crate) fn run<H: ServerHost + AsksServers + Env + Screen, I: ByteReader, O: ByteWriter>(
-    rt: &H,
-    words: &[String],
-    input: &mut I,
-    output: &mut O,
-) -> Status
+pub(crate) fn run<
+    H: ServerHost + ByClocks + AsksServers + Env + Screen,
+    I: ByteReader,
+    O: ByteWriter,
+>(rt: &H, words: &[String], input: &mut I, output: &mut O) -> Status
     ensures taken { AreTaken (map string_bytes words.now) → ¬ (IsForService (asked_of (map string_bytes words.now))) →
         Answers (most_to (asked_of (map string_bytes words.now))) (IsReplyTo (asked_of (map string_bytes words.now)))
         (input_of I.ByteReader input.old) (input_of I.ByteReader input.new)
@@ -47,7 +47,7 @@ pub(crate) fn run<H: ServerHost + AsksServers + Env + Screen, I: ByteReader, O: 
 }
 
 /// Does what the arguments ask for, and answers how the program ends.
-fn answer<H: ServerHost + AsksServers + Env + Screen, I: ByteReader, O: ByteWriter>(
+fn answer<H: ServerHost + ByClocks + AsksServers + Env + Screen, I: ByteReader, O: ByteWriter>(
     rt: &H,
     words: &[&str],
     input: &mut I,

@@ -5,7 +5,7 @@ use crate::services::Stop;
 use arrayvec::ArrayVec;
 use std::fs::{File, Files};
 use std::io::Eprint;
-use tt_host::Host;
+use tt_host::{ByClocks, Host};
 use tt_shared::{BOOT_LEN, FILE_LEN, HEAD_LEN, SharedFault, decode_head, open_view};
 use tt_stream::ByteWriter;
 use tt_text::put_line;
@@ -21,13 +21,18 @@ const THIS_BOOT: &str = "/proc/sys/kernel/random/boot_id";
 /// Writes the reading of a shared file. Standard error says if it is stale, and why a file can't be used.
 ///
 /// Refuses with 1701 `CannotOpen` where the file can't be opened, with 1702 `BadFile` where it is not a shared file,
-/// and then as the reader does: 801, 802, 803, 1701, 1703, 1704, 1708.
-pub(crate) fn read<H: Host, O: ByteWriter>(rt: &H, file: &str, output: &mut O) -> Result<(), Stop> {
+/// and then as the reader does: 801, 802, 803, 1701, 1703, 1704, 1708. It reads the clock that the file names.
+pub(crate) fn read<H: Host + ByClocks + Copy, O: ByteWriter>(
+    rt: &H,
+    file: &str,
+    output: &mut O,
+) -> Result<(), Stop> {
     let mut reader = match open_view(rt, file) {
         Ok(reader) => reader,
         Err(fault) => return Err(refused(rt, file, fault)),
     };
-    match reader.now(&mut Monotonic::new(rt)) {
+    let by = rt.by(reader.clock());
+    match reader.now(&mut Monotonic::new(&by)) {
         Ok(seen) => {
             let ends = [seen.reading.earliest(), seen.reading.latest()];
             let mut line = ArrayVec::<u8, 64>::new();

@@ -11,6 +11,7 @@ use crate::serving::run_server;
 use crate::standard::fill_standard;
 use crate::watching::{Manner, Screen, show};
 use std::rt::Env;
+use tt_host::{ByClocks, HostClock};
 use tt_server::ServerHost;
 use tt_stream::{ByteReader, ByteWriter};
 use ttd_masters::{AsksServers, MasterPlan, serve_polls};
@@ -36,12 +37,11 @@ impl From<ServiceFault> for Stop {
 }
 
 /// Runs a service, and answers how the program ends. Standard error says what a refusal means.
-pub(crate) fn serve<H: ServerHost + AsksServers + Env + Screen, I: ByteReader, O: ByteWriter>(
-    rt: &H,
-    service: &Service<'_>,
-    input: &mut I,
-    output: &mut O,
-) -> Status {
+pub(crate) fn serve<
+    H: ServerHost + ByClocks + AsksServers + Env + Screen,
+    I: ByteReader,
+    O: ByteWriter,
+>(rt: &H, service: &Service<'_>, input: &mut I, output: &mut O) -> Status {
     match run_service(rt, service, input, output) {
         Ok(()) => Status::Fine,
         Err(Stop::Refused(fault)) => {
@@ -57,7 +57,7 @@ pub(crate) fn serve<H: ServerHost + AsksServers + Env + Screen, I: ByteReader, O
 }
 
 /// Runs a service.
-fn run_service<H: ServerHost + AsksServers + Env + Screen, I: ByteReader, O: ByteWriter>(
+fn run_service<H: ServerHost + ByClocks + AsksServers + Env + Screen, I: ByteReader, O: ByteWriter>(
     rt: &H,
     service: &Service<'_>,
     input: &mut I,
@@ -83,7 +83,7 @@ fn run_service<H: ServerHost + AsksServers + Env + Screen, I: ByteReader, O: Byt
                 keys: *keys,
                 status: *status,
             };
-            serve_polls(rt, plan).map_err(ServiceFault::from)?;
+            serve_polls(&rt.by(HostClock::Raw), plan).map_err(ServiceFault::from)?;
             Ok(())
         }
         Service::Serve {

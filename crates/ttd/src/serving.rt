@@ -9,6 +9,7 @@ use std::fs::{File, Files};
 use std::io::Eprint;
 use std::str;
 use tt_epoch::EpochFault;
+use tt_host::ByClocks;
 use tt_server::{ServerFault, ServerHost, serve};
 use tt_settings::{FilePath, OnBreak, Refusal, Settings, SettingsFault};
 use tt_stream::ByteWriter;
@@ -156,7 +157,7 @@ fn status_of(on_break: OnBreak) -> Status {
 /// Refuses with 1604 `ReadFailed` where the file is not a regular one or can't be read, with 1603 `BadFile` where it is
 /// longer than 1 MiB or is not UTF-8, with 1801 to 1806, 1810, 1817, 1818, 1825 or 1826 where the configuration is refused, with
 /// 1817 where two of its files are one, as their folders are found now ([`check_places`]), and with what ended the server, or would refuse its start.
-pub(crate) fn run_server<H: ServerHost, O: ByteWriter>(
+pub(crate) fn run_server<H: ServerHost + ByClocks, O: ByteWriter>(
     rt: &H,
     file: &str,
     check: bool,
@@ -166,7 +167,7 @@ pub(crate) fn run_server<H: ServerHost, O: ByteWriter>(
     let settings = settings_of(rt, rt.alloc(), file)?;
     refuse_places(rt, rt.alloc(), file, &settings)?;
     if !check {
-        return match serve(rt, &settings, until_eof) {
+        return match serve(&rt.by(settings.clock()), &settings, until_eof) {
             Ok(end) => {
                 if end.broken {
                     Err(Stop::Told(status_of(settings.on_break())))

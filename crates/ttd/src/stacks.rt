@@ -4,7 +4,6 @@ ghost use Rattle.std.specs.Prelude.{◌≡◌};
 ghost use Rattle.ttd.specs.Stack.{is_small};
 
 use crate::faults::ServiceFault;
-use std::fs::{File, Files};
 use std::io::Eprint;
 use tt_host::stack_limit;
 
@@ -30,15 +29,12 @@ fn needs_stack(word: &str) -> bool {
 /// Refuses with 1831 `SmallStack` where arguments ask for a machine or a master and the stack of this process is limited to less
 /// than 2 MiB: later, in the midst of its work, the operating system would end the process without a word. Standard error says
 /// how large it may be.
-pub(crate) fn check_stack<H: Files<File = File> + Eprint>(
-    rt: &H,
-    words: &[String],
-) -> Result<(), ServiceFault> {
+pub(crate) fn check_stack<H: Eprint>(rt: &H, words: &[String]) -> Result<(), ServiceFault> {
     match words.first() {
         Some(word) if needs_stack(word.as_str()) => {}
         _ => return Ok(()),
     }
-    let limit = stack_limit(rt);
+    let limit = stack_limit();
     if !is_small(limit) {
         return Ok(());
     }

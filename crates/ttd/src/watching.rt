@@ -11,7 +11,7 @@ use std::os::unix::fs::MetadataExt;
 use std::rt::Env;
 use std::time::{Clock as SystemClock, Duration};
 use std::{env, thread};
-use tt_host::Host;
+use tt_host::{ByClock, Host};
 use tt_publish::Clock;
 use tt_session::{Deadline, DeadlineReader, Timed};
 use tt_settings::{Key, SettingsFault};
@@ -53,6 +53,12 @@ pub(crate) trait Screen {
 impl Screen for HostRuntime {
     fn is_terminal(&self) -> bool {
         self.stdout().is_terminal()
+    }
+}
+
+impl<R: Screen> Screen for ByClock<R> {
+    fn is_terminal(&self) -> bool {
+        self.handle().is_terminal()
     }
 }
 
