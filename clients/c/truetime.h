@@ -21,8 +21,9 @@
  * A call that would refuse, or give a reading that is not fresh, looks at the path, at most once a second. Where another file
  * is there, as behind a restart, the client opens that by the same rules, and answers by it.
  *
- * Reads version 2 of the format (its first four bytes are TTS2), and refuses a file of version 1 with 1702. Needs Linux on a little-endian 64-bit machine, and
- * GCC or Clang: C11 or later with POSIX (-std=gnu11, or -std=c11 -D_POSIX_C_SOURCE=200809L), or C++17.
+ * The clock is that of the file: CLOCK_MONOTONIC_RAW, or CLOCK_MONOTONIC. Reads version 3 of the format (its first four bytes are
+ * TTS3), and refuses another version with 1702. Needs Linux on a little-endian 64-bit machine, and GCC or Clang: C11 or later with
+ * POSIX (-std=gnu11, or -std=c11 -D_POSIX_C_SOURCE=200809L), or C++17.
  */
 #ifndef TRUETIME_H
 #define TRUETIME_H
@@ -69,7 +70,8 @@ enum tt_refusal {
     TT_OTHER_FILE = 1702,  /* not such a file, or of another owner, writable by others, of another boot or another clock */
     TT_NO_SLOT = 1703,     /* no daemon wrote what stands there */
     TT_BUSY = 1704,        /* another publication came during each of the tries */
-    TT_TOO_WIDE = 1708     /* the clock is past the last reading at which the publication may be used */
+    TT_TOO_WIDE = 1708,    /* the clock is past the last reading at which the publication may be used */
+    TT_NO_SLEWED = 1710    /* the file gives nothing by CLOCK_MONOTONIC: of clients that cannot read the clock of the file */
 };
 
 /* Which check of a file failed, behind TT_OTHER_FILE. */
@@ -78,6 +80,7 @@ enum tt_file_fault { TT_FILE_KIND = 1, TT_FILE_OWNER, TT_FILE_WRITABLE, TT_FILE_
 /* Where a file is, and what is known of it. Threads of one client share it. */
 typedef struct tt_place {
     uint64_t turn;         /* its lowest bit says which of two pages, or of two descriptors, is the one in use */
+    uint64_t clocks[2];    /* the clocks of these, as TT_MONOTONIC */
     int files[2];          /* where it is not mapped: the descriptors, or -1 */
     uint64_t users[2];     /* and how many calls read by each */
     uint64_t next_look_ns; /* the clock reading from which on the path may be looked at again */
@@ -123,9 +126,13 @@ static inline int tt_uid(const char *user, uid_t *uid) {
     return 0;
 }
 
+/* The clocks that a file may have, by their numbers in Linux. */
+enum { TT_MONOTONIC = 1, TT_MONOTONIC_RAW = 4 };
+
 /* What the daemon published. */
 typedef struct tt_publication {
-    uint64_t clock_ns;        /* the machine's clock at the fusion */
+    uint64_t clock;           /* which clock this and the readings below are of: TT_MONOTONIC or TT_MONOTONIC_RAW */
+    uint64_t clock_ns;        /* that clock at the fusion */
     uint64_t lo_ns, hi_ns;    /* the interval that held the true time then */
     uint64_t valid_until_ns;  /* the last clock reading at which a newer publication is not overdue */
     uint64_t usable_until_ns; /* the last clock reading at which it may be used; UINT64_MAX: no limit; 0: none */
@@ -157,7 +164,7 @@ enum { TT_APART = 65536 };
 #define TT_ANONYMOUS 0x20
 #endif
 
-/* Whether CLOCK_MONOTONIC is here what it is to the daemon: the same boot, and no time namespace that shifts it. */
+/* Whether both clocks are here what they are to the daemon: the same boot, and no time namespace that shifts them. */
 static inline bool tt_is_same_clock(const char *boot) {
     char here[36];
     long long seconds = 0, nanoseconds = 0;
@@ -185,7 +192,7 @@ static inline int tt_refuse(int *cause, int refused, int why) {
 }
 
 /* Refuses, with 1701 and 1702, all but the shared file of this boot that the user owns and nobody else may write. */
-static inline int tt_check_file(int file, uid_t owner, struct stat *found, int *cause) {
+static inline int tt_check_file(int file, uid_t owner, struct stat *found, uint64_t *clock, int *cause) {
     char head[8 * TT_FIRST_SLOT];
     errno = 0;
     if (fstat(file, found) != 0) return tt_refuse(cause, TT_NO_FILE, errno);
@@ -193,17 +200,19 @@ static inline int tt_check_file(int file, uid_t owner, struct stat *found, int *
     if (found->st_uid != owner) return tt_refuse(cause, TT_OTHER_FILE, TT_FILE_OWNER);
     if ((found->st_mode & (S_IWGRP | S_IWOTH)) != 0) return tt_refuse(cause, TT_OTHER_FILE, TT_FILE_WRITABLE);
     if (!tt_pread(file, head, sizeof head, 0)) return tt_refuse(cause, TT_NO_FILE, errno);
-    /* The format, the length, and the clock: 1 is CLOCK_MONOTONIC. The boot has 36 letters, and 4 zeros follow. */
-    if (memcmp(head, "TTS2\x40\1\0\0\1\0\0\0\0\0\0\0", 16) != 0 || memcmp(head + 60, "\0\0\0\0", 4) != 0)
+    /* The format, the length, and the clock. The boot has 36 letters, and 4 zeros follow. */
+    memcpy(clock, head + 8, sizeof *clock);
+    bool is_clock = *clock == TT_MONOTONIC || *clock == TT_MONOTONIC_RAW;
+    if (memcmp(head, "TTS3\x40\1\0\0", 8) != 0 || !is_clock || memcmp(head + 60, "\0\0\0\0", 4) != 0)
         return tt_refuse(cause, TT_OTHER_FILE, TT_FILE_FORMAT);
     return tt_is_same_clock(head + 24) ? 0 : tt_refuse(cause, TT_OTHER_FILE, TT_FILE_CLOCK);
 }
 
 /* Opens the file at this path, where it is such a file. Refuses with 1701 and 1702. */
-static inline int tt_open_file(const char *path, uid_t owner, int *file, struct stat *found, int *cause) {
+static inline int tt_open_file(const char *path, uid_t owner, int *file, struct stat *found, uint64_t *clock, int *cause) {
     *file = open(path, O_RDONLY | O_CLOEXEC | O_NOFOLLOW | O_NONBLOCK);
     if (*file < 0) return tt_refuse(cause, TT_NO_FILE, errno);
-    int refused = tt_check_file(*file, owner, found, cause);
+    int refused = tt_check_file(*file, owner, found, clock, cause);
     if (refused != 0) close(*file);
     return refused;
 }
@@ -233,12 +242,13 @@ static inline tt_place *tt_place_of(const char *path, uid_t owner, const struct 
 /* Opens the file at this path, to be read at each call. Refuses with 1701 and 1702; then the client is not open. */
 static inline int tt_open_unmapped(tt_client *client, const char *path, uid_t owner) {
     struct stat found;
+    uint64_t clock;
     int file;
     client->pages = NULL;
     client->place = NULL;
     client->max_width_ns = UINT64_MAX;
     client->cause = 0;
-    client->refused = tt_open_file(path, owner, &file, &found, &client->cause);
+    client->refused = tt_open_file(path, owner, &file, &found, &clock, &client->cause);
     if (client->refused != 0) return client->refused;
     client->place = tt_place_of(path, owner, &found);
     if (client->place == NULL) {
@@ -247,6 +257,7 @@ static inline int tt_open_unmapped(tt_client *client, const char *path, uid_t ow
         return client->refused;
     }
     client->place->files[0] = file;
+    client->place->clocks[0] = clock;
     return 0;
 }
 
@@ -294,7 +305,9 @@ static inline size_t tt_slot_of(uint64_t index) {
 typedef struct tt_slot {
     uint64_t index; /* at which it is current */
     tt_publication published;
-    uint64_t behind; /* the words behind it, or-ed: zeros fill the slot */
+    /* The second base, by CLOCK_MONOTONIC, for who cannot read the clock of the file: it has to be one, and is not read. */
+    uint64_t slewed_ns, slewed_lo_ns, slewed_hi_ns, slewed_drift_ppm;
+    uint64_t behind; /* the last word: 0 */
 } tt_slot;
 
 static inline uint64_t tt_load(const uint64_t *word) { return __atomic_load_n(word, __ATOMIC_ACQUIRE); }
@@ -313,20 +326,24 @@ TT_INLINE void tt_load_slot(const uint64_t *words, tt_slot *slot) {
     slot->published.number = tt_load(words + 6);
     slot->published.drift_ppm = tt_load(words + 7);
     slot->published.usable_until_ns = tt_load(words + 8);
-    slot->behind = tt_load(words + 9) | tt_load(words + 10) | tt_load(words + 11) | tt_load(words + 12) |
-                   tt_load(words + 13) | tt_load(words + 14) | tt_load(words + 15);
+    slot->slewed_ns = tt_load(words + 9);
+    slot->slewed_lo_ns = tt_load(words + 10);
+    slot->slewed_hi_ns = tt_load(words + 11);
+    slot->slewed_drift_ppm = tt_load(words + 12);
+    slot->behind = tt_load(words + 15);
 }
 
 /* Copies the slot of the index that is shown. Refuses with 1704 where the copy may not be whole. It is whole where the
  * index is the same before and after: a publication changes the index before the next one writes into this slot, and no
  * index comes twice, so no byte of the slot has changed in between. The loads stay in their order, since each one is an
- * acquire. Where the turn is the same, too, all of it is of one file: nothing is mapped over the page of a turn while that
- * lasts. */
+ * acquire. Where the turn is the same, too, all of it is of one file, and so is the clock: nothing is mapped over the page of a
+ * turn while that lasts. */
 TT_INLINE int tt_copy(const tt_client *client, uint64_t *index, tt_slot *slot) {
     uint64_t turn = tt_load(&client->place->turn);
     const uint64_t *words = (const uint64_t *)(const void *)(client->pages + (turn & 1) * TT_APART);
     *index = tt_load(words + TT_INDEX_WORD);
     tt_load_slot(words + tt_slot_of(*index), slot);
+    slot->published.clock = tt_load(&client->place->clocks[turn & 1]);
     return tt_load(words + TT_INDEX_WORD) == *index && tt_load(&client->place->turn) == turn ? 0 : TT_BUSY;
 }
 
@@ -350,11 +367,13 @@ static inline int tt_copy_unmapped(const tt_client *client, uint64_t *index, tt_
     if (client->place == NULL) return TT_NO_FILE;
     uint64_t turn = tt_enter_file(client->place);
     int file = client->place->files[turn & 1];
+    uint64_t clock = client->place->clocks[turn & 1];
     bool is_read = tt_pread(file, &before, 8, 8 * TT_INDEX_WORD) && tt_pread(file, words, sizeof words, 8 * tt_slot_of(before)) &&
                    tt_pread(file, &after, 8, 8 * TT_INDEX_WORD);
     tt_leave_file(client->place, turn);
     if (!is_read) return TT_NO_FILE;
     tt_load_slot(words, slot);
+    slot->published.clock = clock;
     *index = before;
     return after == before ? 0 : TT_BUSY;
 }
@@ -362,12 +381,18 @@ static inline int tt_copy_unmapped(const tt_client *client, uint64_t *index, tt_
 /* Whether this is so, which it hardly ever is: the compiler makes the other way the shorter one. */
 static inline bool tt_rarely(bool is_so) { return __builtin_expect(is_so, false); }
 
+/* Whether these may be the clock, the span and the drift of a base. */
+TT_INLINE bool tt_is_base(uint64_t clock_ns, uint64_t lo_ns, uint64_t hi_ns, uint64_t drift_ppm) {
+    return !tt_rarely(clock_ns > TT_MAX_TIME_NS) && !tt_rarely(lo_ns > hi_ns) && !tt_rarely(hi_ns > TT_MAX_TIME_NS) &&
+           !tt_rarely(drift_ppm > TT_MAX_DRIFT_PPM);
+}
+
 /* Whether a daemon may have written this slot for this index. */
 TT_INLINE bool tt_is_slot(uint64_t index, const tt_slot *slot) {
     const tt_publication *published = &slot->published;
     return !tt_rarely((slot->behind | (slot->index ^ index)) != 0) &&
-           !tt_rarely(published->clock_ns > TT_MAX_TIME_NS) && !tt_rarely(published->lo_ns > published->hi_ns) &&
-           !tt_rarely(published->hi_ns > TT_MAX_TIME_NS) && !tt_rarely(published->drift_ppm > TT_MAX_DRIFT_PPM);
+           tt_is_base(published->clock_ns, published->lo_ns, published->hi_ns, published->drift_ppm) &&
+           tt_is_base(slot->slewed_ns, slot->slewed_lo_ns, slot->slewed_hi_ns, slot->slewed_drift_ppm);
 }
 
 /* The publication of a slot that was copied at this index. Refuses with 801, 1703, and 801 where nothing is published any
@@ -430,18 +455,21 @@ TT_INLINE int tt_read_at(const tt_publication *published, uint64_t clock_ns, tt_
     return 0;
 }
 
-/* The machine's clock in nanoseconds. Refuses with 803. */
-TT_INLINE int tt_clock(uint64_t *clock_ns) {
+/* A clock by its number, in nanoseconds. Refuses with 803. */
+TT_INLINE int tt_clock_of(uint64_t clock, uint64_t *clock_ns) {
     struct timespec now;
-    if (clock_gettime(CLOCK_MONOTONIC, &now) != 0 || tt_rarely(now.tv_sec < 0)) return TT_CLOCK_FAILED;
+    if (clock_gettime((clockid_t)clock, &now) != 0 || tt_rarely(now.tv_sec < 0)) return TT_CLOCK_FAILED;
     /* A clock past the greatest time shows one second more than that, which tt_read_at refuses. */
     if (tt_rarely(now.tv_sec > 4000000000)) now.tv_sec = 4000000001;
     *clock_ns = (uint64_t)now.tv_sec * 1000000000 + (uint64_t)now.tv_nsec;
     return 0;
 }
 
+/* CLOCK_MONOTONIC in nanoseconds, by which deadlines are. Refuses with 803. */
+static inline int tt_clock(uint64_t *clock_ns) { return tt_clock_of(TT_MONOTONIC, clock_ns); }
+
 /* Takes this file in place of the one that is read. The old one is unmapped or closed once no thread reads it. */
-static inline bool tt_replace(const tt_client *client, int file) {
+static inline bool tt_replace(const tt_client *client, int file, uint64_t clock) {
     tt_place *place = client->place;
     uint64_t turn = tt_load(&place->turn);
     size_t old = turn & 1, next = 1 - old;
@@ -449,6 +477,7 @@ static inline bool tt_replace(const tt_client *client, int file) {
         bool is_mapped = tt_map_at(client->pages + next * TT_APART, file);
         close(file);
         if (!is_mapped) return false;
+        __atomic_store_n(&place->clocks[next], clock, __ATOMIC_SEQ_CST);
         __atomic_store_n(&place->turn, turn + 1, __ATOMIC_SEQ_CST);
         (void)tt_map_at(client->pages + old * TT_APART, -1); /* who still reads there sees the turn, and reads again */
         return true;
@@ -459,6 +488,7 @@ static inline bool tt_replace(const tt_client *client, int file) {
     }
     if (place->files[next] >= 0) close(place->files[next]);
     place->files[next] = file;
+    place->clocks[next] = clock;
     __atomic_store_n(&place->turn, turn + 1, __ATOMIC_SEQ_CST);
     for (int tries = 0; tries < TT_TRIES && __atomic_load_n(&place->users[old], __ATOMIC_SEQ_CST) != 0; tries++) sched_yield();
     if (__atomic_load_n(&place->users[old], __ATOMIC_SEQ_CST) == 0) {
@@ -472,14 +502,15 @@ static inline bool tt_replace(const tt_client *client, int file) {
  * of tt_open. Whether it did. */
 __attribute__((cold, noinline, unused)) static bool tt_renew(const tt_client *client) {
     tt_place *place = client->place;
-    uint64_t now_ns;
+    uint64_t now_ns, clock;
     struct stat found;
     int file, cause;
     if (place == NULL || tt_clock(&now_ns) != 0 || now_ns < tt_load(&place->next_look_ns)) return false;
     if (__atomic_exchange_n(&place->is_looking, true, __ATOMIC_ACQ_REL)) return false;
     __atomic_store_n(&place->next_look_ns, now_ns + TT_LOOK_NS, __ATOMIC_RELEASE);
     bool is_other = lstat(place->path, &found) == 0 && (found.st_ino != place->inode || found.st_dev != place->device);
-    bool is_taken = is_other && tt_open_file(place->path, place->owner, &file, &found, &cause) == 0 && tt_replace(client, file);
+    bool is_taken = is_other && tt_open_file(place->path, place->owner, &file, &found, &clock, &cause) == 0 &&
+                    tt_replace(client, file, clock);
     if (is_taken) {
         place->device = found.st_dev;
         place->inode = found.st_ino;
@@ -503,7 +534,7 @@ TT_INLINE int tt_now_once(const tt_client *client, tt_reading *reading) {
     tt_publication published;
     uint64_t clock_ns = 0;
     int refused = tt_read_once(client, &published);
-    if (refused == 0) refused = tt_clock(&clock_ns);
+    if (refused == 0) refused = tt_clock_of(published.clock, &clock_ns);
     return refused == 0 ? tt_read_at(&published, clock_ns, reading) : refused;
 }
 

@@ -38,6 +38,7 @@ static inline const char *tt_strerror(int answer) {
         case 1703: return "no daemon wrote what stands there";
         case 1704: return "another publication came during each of the tries";
         case 1708: return "the clock is past the last reading at which the publication may be used";
+        case 1710: return "the file gives nothing by CLOCK_MONOTONIC";
         case 1821: return "the floor, or the lower end of the lease, is further ahead than the machine allows";
         case 1822: return "the commit is pending no more: its connection broke, or the machine ends";
         case 1823: return "the machine knows that an assumption of the service is broken";

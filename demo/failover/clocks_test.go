@@ -26,11 +26,11 @@ func sharedFile(t *testing.T, validUntil uint64) string {
 		t.Skip(err)
 	}
 	bytes := make([]byte, 320)
-	copy(bytes, "TTS2\x40\x01\x00\x00\x01")
+	copy(bytes, "TTS3\x40\x01\x00\x00\x04") // by CLOCK_MONOTONIC_RAW, so Go reads the second base
 	copy(bytes[24:60], boot)
 	put := func(at int, number uint64) { binary.LittleEndian.PutUint64(bytes[at:], number) }
 	put(16, 1) // the index: one publication, which stands in slot 1
-	for place, number := range []uint64{1, 0, 1_000_000, 2_000_000, validUntil, 1, 1, 0, ^uint64(0)} {
+	for place, number := range []uint64{1, 0, 1, 2, 0, 1, 1, 0, 3, 0, 1_000_000, 2_000_000, 0, validUntil, ^uint64(0), 0} {
 		put(192+8*place, number)
 	}
 	path := filepath.Join(t.TempDir(), "time")

@@ -4,7 +4,10 @@
  *                              `EARLIEST LATEST EPOCH NUMBER fresh|stale`, and whether T has passed and is ahead by it, `yes` or
  *                              `no` each; or `refused N`
  *     probe open PATH          `published CLOCK LO HI VALID_UNTIL USABLE_UNTIL EPOCH NUMBER DRIFT` of the file, or `refused N`
- *     probe files < LINES      for each line `open PATH` the same of a file that is not mapped, and for `again` of that file now
+ *     probe files < LINES      for each line `open PATH` the same of a file that is not mapped, for `map PATH` of a mapped one, and
+ *                              for `again` of that file now. For `at MONOTONIC RAW` the reading of it where these are the
+ *                              clocks: `CLOCK EARLIEST LATEST EPOCH NUMBER fresh|stale`, with the number of the clock that is
+ *                              read; or `refused N`
  *     probe session < CALLS    for each call of a session, what it gives, `refused N`, `timed out`, `invalid` or `failed`.
  *                              The calls are `open tcp PORT MILLISECONDS [MAX_WIDTH]`, `open unix PATH MILLISECONDS
  *                              [MAX_WIDTH]`, `now`, `after T`,
@@ -65,17 +68,36 @@ static int try_file(const char *path) {
     return 0;
 }
 
+/* The reading of a file where CLOCK_MONOTONIC and CLOCK_MONOTONIC_RAW show these. */
+static void print_at(const tt_client *client, uint64_t monotonic_ns, uint64_t raw_ns) {
+    tt_publication p;
+    tt_reading reading;
+    int refused = tt_read(client, &p);
+    if (refused == 0) refused = tt_read_at(&p, p.clock == TT_MONOTONIC_RAW ? raw_ns : monotonic_ns, &reading);
+    if (refused != 0)
+        printf("refused %d\n", refused);
+    else
+        printf("%" PRIu64 " %" PRIu64 " %" PRIu64 " %" PRIu64 " %" PRIu64 " %s\n", p.clock, reading.earliest_ns, reading.latest_ns,
+               reading.epoch, reading.number, reading.fresh ? "fresh" : "stale");
+    fflush(stdout);
+}
+
 static int try_files(void) {
     tt_client client;
     tt_publication p;
     char line[512];
+    uint64_t monotonic_ns, raw_ns;
     memset(&client, 0, sizeof client);
     while (fgets(line, sizeof line, stdin) != NULL) {
         line[strcspn(line, "\n")] = '\0';
         int refused = 0;
-        if (strncmp(line, "open ", 5) == 0) {
+        if (sscanf(line, "at %" SCNu64 "%" SCNu64, &monotonic_ns, &raw_ns) == 2) {
+            print_at(&client, monotonic_ns, raw_ns);
+            continue;
+        }
+        if (strncmp(line, "open ", 5) == 0 || strncmp(line, "map ", 4) == 0) {
             tt_close(&client);
-            refused = tt_open_unmapped(&client, line + 5, geteuid());
+            refused = *line == 'm' ? tt_open(&client, line + 4, geteuid()) : tt_open_unmapped(&client, line + 5, geteuid());
         }
         if (refused == 0) refused = tt_read(&client, &p);
         print_publication(refused, &p);

@@ -39,6 +39,7 @@ static uint64_t scattered(uint64_t n, uint64_t field) {
 static tt_publication publication_of(uint64_t n) {
     uint64_t a = scattered(n, 1) % TT_MAX_TIME_NS, b = scattered(n, 2) % TT_MAX_TIME_NS;
     tt_publication p;
+    p.clock = TT_MONOTONIC_RAW;
     p.clock_ns = scattered(n, 3) % 1000000;
     p.lo_ns = a < b ? a : b;
     p.hi_ns = a < b ? b : a;
@@ -52,7 +53,7 @@ static tt_publication publication_of(uint64_t n) {
 
 static bool is_publication(const tt_publication *p) {
     tt_publication q = publication_of(p->number);
-    return p->clock_ns == q.clock_ns && p->lo_ns == q.lo_ns && p->hi_ns == q.hi_ns && p->valid_until_ns == q.valid_until_ns &&
+    return p->clock == q.clock && p->clock_ns == q.clock_ns && p->lo_ns == q.lo_ns && p->hi_ns == q.hi_ns && p->valid_until_ns == q.valid_until_ns &&
            p->usable_until_ns == q.usable_until_ns && p->epoch == q.epoch && p->drift_ppm == q.drift_ppm;
 }
 
@@ -89,7 +90,7 @@ static void fail(const char *what) {
 }
 
 static void make_file(void) {
-    unsigned char head[TT_BYTES] = "TTS2\x40\1\0\0\1\0\0\0\0\0\0\0";
+    unsigned char head[TT_BYTES] = "TTS3\x40\1\0\0\4\0\0\0\0\0\0\0";
     FILE *boot = fopen("/proc/sys/kernel/random/boot_id", "r");
     if (boot == NULL || fread(head + 24, 1, 36, boot) != 36) fail("boot_id");
     fclose(boot);
@@ -119,8 +120,10 @@ static void publish(writer *w) {
     off_t byte_at = 16 + __builtin_ctzll(change) / 8, slot_at = 8 * (TT_FIRST_SLOT + TT_SLOT_WORDS * (off_t)(n & 1));
     unsigned char byte = (unsigned char)(index >> 8 * (byte_at - 16));
     tt_publication p = publication_of(n);
-    uint64_t word[TT_SLOT_WORDS] = {index,   p.clock_ns, p.lo_ns,     p.hi_ns,          p.valid_until_ns,
-                                    p.epoch, p.number,   p.drift_ppm, p.usable_until_ns};
+    /* The second base has the numbers of the first one, and other limits. */
+    uint64_t word[TT_SLOT_WORDS] = {index,       p.clock_ns,        p.lo_ns,    p.hi_ns, p.valid_until_ns, p.epoch,     p.number,
+                                    p.drift_ppm, p.usable_until_ns, p.clock_ns, p.lo_ns, p.hi_ns,          p.drift_ppm, scattered(n, 8),
+                                    scattered(n, 10)};
     unsigned char bytes[8 * TT_SLOT_WORDS];
     memcpy(bytes, word, sizeof bytes);
     if (chosen == STORES || chosen == THREAD) {

@@ -1,6 +1,24 @@
 #define _DEFAULT_SOURCE /* for MAP_ANONYMOUS */
 
-/* Tests of what no probe shows: owners by name, causes, names of hosts, and observers. The folder to work in is its argument. */
+/* Tests of what no probe shows: owners by name, causes, clocks, names of hosts, and observers. The folder to work in is its argument. */
+#include <errno.h>
+#include <stdint.h>
+#include <time.h>
+
+/* What the clocks of the readers show, by their numbers in Linux: 0 is what the host's show, UINT64_MAX that they fail. */
+static uint64_t shown_ns[5];
+
+static int show(clockid_t clock, struct timespec *shown) {
+    uint64_t wanted = clock >= 0 && clock < 5 ? shown_ns[clock] : 0;
+    if (wanted == 0) return clock_gettime(clock, shown);
+    shown->tv_sec = (time_t)(wanted / 1000000000);
+    shown->tv_nsec = (long)(wanted % 1000000000);
+    errno = EINVAL;
+    return wanted == UINT64_MAX ? -1 : 0;
+}
+
+#define clock_gettime show
+
 #include "../truetime.h"
 #include "../truetime_session.h"
 #include "../truetime_pending.h"
@@ -20,9 +38,9 @@ static void check(bool is_so, const char *what) {
     printf("wrong: %s\n", what);
 }
 
-/* Writes a file of a daemon that has published nothing, with a byte changed, and with this mode. */
+/* Writes a file of a daemon that has published nothing, with a byte changed, and with this mode. Its clock is CLOCK_MONOTONIC_RAW. */
 static void write_file(const char *path, size_t length, int changed, mode_t mode) {
-    char bytes[TT_BYTES] = "TTS2\x40\1\0\0\1\0\0\0\0\0\0";
+    char bytes[TT_BYTES] = "TTS3\x40\1\0\0\4\0\0\0\0\0\0";
     FILE *file = fopen("/proc/sys/kernel/random/boot_id", "r");
     if (file == NULL || fread(bytes + 24, 1, 36, file) != 36) exit(3);
     fclose(file);
@@ -40,7 +58,8 @@ static void try_causes(const char *path) {
         mode_t mode;
         int cause;
     } tried[] = {{TT_BYTES - 1, -1, 0644, TT_FILE_KIND}, {TT_BYTES, -1, 0664, TT_FILE_WRITABLE}, {TT_BYTES, 3, 0644, TT_FILE_FORMAT},
-                 {TT_BYTES, 63, 0644, TT_FILE_FORMAT}, {TT_BYTES, 24, 0644, TT_FILE_CLOCK}};
+                 {TT_BYTES, 8, 0644, TT_FILE_FORMAT}, {TT_BYTES, 15, 0644, TT_FILE_FORMAT}, {TT_BYTES, 63, 0644, TT_FILE_FORMAT},
+                 {TT_BYTES, 24, 0644, TT_FILE_CLOCK}};
     tt_client client;
     for (size_t place = 0; place < sizeof tried / sizeof *tried; place++) {
         write_file(path, tried[place].length, tried[place].changed, tried[place].mode);
@@ -54,6 +73,69 @@ static void try_causes(const char *path) {
     tt_close(&client);
     check(tt_open(&client, "/none/such", geteuid()) == TT_NO_FILE && client.cause == ENOENT, "a file that is not there");
     check(strcmp(tt_cause(&client), strerror(ENOENT)) == 0, tt_cause(&client));
+}
+
+/* Puts a file there, in place of what is there, by this clock, with one publication: by its clock at 1,000 the true time was from 5 to 15,
+ * and by CLOCK_MONOTONIC at 500,000 it was from 7,000 to 8,000, which no reader of C tells. */
+static void put_file(const char *path, uint64_t clock, uint64_t epoch) {
+    uint64_t slot[TT_SLOT_WORDS] = {1,    1000,   5,    15,   6000, epoch,  1,      200,
+                                    7000, 500000, 7000, 8000, 1400, 600000, 700000, 0};
+    uint64_t index = 1;
+    char other[1100];
+    snprintf(other, sizeof other, "%s.new", path);
+    write_file(other, TT_BYTES, -1, 0644);
+    FILE *file = fopen(other, "r+");
+    if (file == NULL || fseek(file, 8, SEEK_SET) != 0 || fwrite(&clock, sizeof clock, 1, file) != 1 ||
+        fwrite(&index, sizeof index, 1, file) != 1 || fseek(file, 8 * (TT_FIRST_SLOT + TT_SLOT_WORDS), SEEK_SET) != 0 ||
+        fwrite(slot, sizeof slot, 1, file) != 1 || fclose(file) != 0 || rename(other, path) != 0)
+        exit(3);
+}
+
+static void check_now(const tt_client *client, uint64_t epoch, int wanted, uint64_t earliest_ns, uint64_t latest_ns, bool is_fresh) {
+    tt_reading now;
+    char what[100];
+    int refused = tt_now(client, &now);
+    snprintf(what, sizeof what, "%d, from %" PRIu64 " to %" PRIu64 ", by epoch %" PRIu64, refused, now.earliest_ns, now.latest_ns, now.epoch);
+    check(refused == wanted && now.earliest_ns == earliest_ns && now.latest_ns == latest_ns && now.fresh == is_fresh &&
+              (refused != 0 || now.epoch == epoch), what);
+}
+
+/* The clock is the one that the file names, also where the next file at the path names the other one. */
+static void try_clocks(const char *path) {
+    static int (*const opens[])(tt_client *, const char *, uid_t) = {tt_open, tt_open_unmapped};
+    static const uint64_t clocks[] = {TT_MONOTONIC_RAW, TT_MONOTONIC, TT_MONOTONIC_RAW, TT_MONOTONIC_RAW, TT_MONOTONIC};
+    tt_client client;
+    tt_publication published;
+    for (int way = 0; way < 2; way++) {
+        put_file(path, clocks[0], 10);
+        check(opens[way](&client, path, geteuid()) == 0, "a file by its clock");
+        for (uint64_t turn = 0; turn < sizeof clocks / sizeof *clocks; turn++) {
+            uint64_t clock = clocks[turn], other = clock == TT_MONOTONIC ? TT_MONOTONIC_RAW : TT_MONOTONIC;
+            if (turn > 0) put_file(path, clock, 10 + turn);
+            /* The one before is late, by either clock. A look at the path is due each second of CLOCK_MONOTONIC. */
+            shown_ns[TT_MONOTONIC] = shown_ns[TT_MONOTONIC_RAW] = UINT64_C(10000000000) * (turn + 1);
+            if (turn > 0) check_now(&client, 0, TT_TOO_WIDE, 0, TT_MAX_TIME_NS, false);
+            check(tt_read(&client, &published) == 0 && published.clock == clock && published.epoch == 10 + turn, "whose clock it is");
+            shown_ns[other] = 3000;
+            shown_ns[clock] = 6000;
+            check_now(&client, 10 + turn, 0, 5004, 5016, true);
+            shown_ns[clock] = 6001;
+            check_now(&client, 10 + turn, 0, 5004, 5018, false);
+            shown_ns[clock] = 7000;
+            check_now(&client, 10 + turn, 0, 6003, 6017, false);
+            shown_ns[clock] = 7001;
+            check_now(&client, 10 + turn, TT_TOO_WIDE, 0, TT_MAX_TIME_NS, false);
+            shown_ns[clock] = 999;
+            check_now(&client, 10 + turn, TT_CLOCK_BACK, 0, TT_MAX_TIME_NS, false);
+            shown_ns[clock] = UINT64_MAX;
+            check_now(&client, 10 + turn, TT_CLOCK_FAILED, 0, TT_MAX_TIME_NS, false);
+            shown_ns[clock] = 6000;
+            shown_ns[other] = UINT64_MAX;
+            check_now(&client, 10 + turn, 0, 5004, 5016, true);
+        }
+        shown_ns[TT_MONOTONIC] = shown_ns[TT_MONOTONIC_RAW] = 0;
+        tt_close(&client);
+    }
 }
 
 enum { PROCESSES = 4, EACH = 20000 };
@@ -72,7 +154,7 @@ static int compared(const void *one, const void *other) {
 /* Publishes the true time as from 1 s to 1 s and a nanosecond, as it is now. */
 static void publish(const char *path) {
     uint64_t slot[9] = {1, 0, 1000000000, 1000000001, UINT64_MAX, 7, 1, 0, UINT64_MAX}, index = 1;
-    tt_clock(&slot[1]);
+    tt_clock_of(TT_MONOTONIC_RAW, &slot[1]);
     FILE *file = fopen(path, "r+");
     if (file == NULL || fseek(file, 8 * (TT_FIRST_SLOT + TT_SLOT_WORDS), SEEK_SET) != 0 || fwrite(slot, sizeof slot, 1, file) != 1 ||
         fseek(file, 8 * TT_INDEX_WORD, SEEK_SET) != 0 || fwrite(&index, sizeof index, 1, file) != 1)
@@ -225,6 +307,7 @@ int main(int count, char **arguments) {
     if (count != 2) return 2;
     snprintf(path, sizeof path, "%s/time", arguments[1]);
     try_causes(path);
+    try_clocks(path);
     try_users();
     try_processes(path);
     try_sessions();

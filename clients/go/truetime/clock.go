@@ -7,7 +7,7 @@ import (
 	"unsafe"
 )
 
-// clockMonotonic is CLOCK_MONOTONIC, the clock of the shared file. Package time shows it as a difference alone.
+// clockMonotonic is CLOCK_MONOTONIC, the clock of readings. Package time shows it as a difference alone.
 const clockMonotonic = 1
 
 // systemNanotime gives the machine's clock in nanoseconds by a system call, and -1 where that fails.

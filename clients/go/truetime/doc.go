@@ -35,7 +35,7 @@
 //
 // # Build tags
 //
-// The mapped file is read by the clock of the runtime, where that is CLOCK_MONOTONIC. With the tag truetime_syscall
+// The file is read by the clock of the runtime, where that is CLOCK_MONOTONIC. With the tag truetime_syscall
 // nothing of the runtime is named, and the clock is read by a system call. With truetime_nofile there is no reader of the
 // file, as on other systems.
 package truetime

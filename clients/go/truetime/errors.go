@@ -32,6 +32,7 @@ const (
 	NoSlot         Refusal = 1703 // no daemon wrote what stands there
 	Busy           Refusal = 1704 // another publication came during each of the tries
 	TooWide        Refusal = 1708 // the clock is past the last reading at which the publication may be used
+	NoSlewed       Refusal = 1710 // the file gives nothing by CLOCK_MONOTONIC until the daemon's next round, or longer
 	FloorAboveCap  Refusal = 1821 // the floor, or the lower end of the lease, is further ahead than the machine allows
 	CommitGone     Refusal = 1822 // the commit is pending no more: its connection broke, or the machine ends
 	Broken         Refusal = 1823 // the machine knows that an assumption of the service is broken
@@ -60,6 +61,7 @@ var meanings = map[Refusal]string{
 	NoSlot:         "no daemon wrote what stands there",
 	Busy:           "another publication came during each of the tries",
 	TooWide:        "the clock is past the last reading at which the publication may be used",
+	NoSlewed:       "the file gives nothing by CLOCK_MONOTONIC",
 	FloorAboveCap:  "the floor, or the lower end of the lease, is further ahead than the machine allows",
 	CommitGone:     "the commit is pending no more: its connection broke, or the machine ends",
 	Broken:         "the machine knows that an assumption of the service is broken",

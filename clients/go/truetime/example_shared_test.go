@@ -24,7 +24,7 @@ func shareTime() (path, owner string) {
 	const index, noLimit = 1, 1<<64 - 1
 	published := [...]uint64{index, 0, 1_000_000_000, 1_000_001_000, noLimit, 7, 1, 0, noLimit}
 	file := make([]byte, 320)
-	copy(file, "TTS2\x40\x01\x00\x00\x01")
+	copy(file, "TTS3\x40\x01\x00\x00\x01") // by CLOCK_MONOTONIC
 	binary.LittleEndian.PutUint64(file[16:], index)
 	copy(file[24:60], boot)
 	for place, number := range published {

@@ -29,9 +29,9 @@ type Reading struct {
 	Fresh bool
 }
 
-// A Publication is what the daemon published.
+// A Publication is what the daemon published, by CLOCK_MONOTONIC.
 type Publication struct {
-	Clock       uint64 // the machine's clock at the fusion
+	Clock       uint64 // the clock at the fusion, or soon after it
 	Lo, Hi      uint64 // the interval that held the true time then
 	ValidUntil  uint64 // the last clock reading at which a newer publication is not overdue
 	UsableUntil uint64 // the last clock reading at which it may be used; 1<<64 - 1: no limit; 0: nothing is published any more
@@ -81,8 +81,4 @@ func cut(t uint64) int64 {
 		return MaxTime
 	}
 	return int64(t)
-}
-
-func (p *Publication) isInRange() bool {
-	return p.Clock <= MaxTime && p.Lo <= p.Hi && p.Hi <= MaxTime && p.Drift <= MaxDrift
 }

@@ -24,20 +24,21 @@ const (
 	indexWord = 2
 	firstSlot = 8
 	slotWords = 16
-	usedWords = 9 // zeros follow
 	tries     = 1000
 	lowBits   = 0x0101_0101_0101_0101
 	// The time from one look at the path to the next.
 	lookNanoseconds = 1_000_000_000
-	// The format, the length, and the clock: 1 is CLOCK_MONOTONIC.
-	head = "TTS2\x40\x01\x00\x00\x01\x00\x00\x00\x00\x00\x00\x00"
+	// The format and the length. The clock follows.
+	head = "TTS3\x40\x01\x00\x00"
+	// CLOCK_MONOTONIC_RAW, which the runtime does not show. A file by it has a second base by CLOCK_MONOTONIC.
+	clockMonotonicRaw = 4
 )
 
 // A Client reads the time from a file of a daemon. Any number of goroutines may use it.
 type Client struct {
-	mapped    unsafe.Pointer          // *mapping: a call of atomic.Pointer's Load is not inlined
-	file      atomic.Pointer[os.File] // where it is not mapped
-	byRuntime bool                    // whether the clock of the runtime is CLOCK_MONOTONIC
+	mapped    unsafe.Pointer         // *mapping: a call of atomic.Pointer's Load is not inlined
+	file      atomic.Pointer[opened] // where it is not mapped
+	byRuntime bool                   // whether the clock of the runtime is CLOCK_MONOTONIC
 	place     place
 
 	hasMaxWidth bool
@@ -59,6 +60,13 @@ var errClosed = &FileError{NoFile, fs.ErrClosed}
 // A mapping is the memory of a mapped file.
 type mapping struct {
 	words *[fileWords]uint64 // loaded by sync/atomic alone
+	isRaw bool               // whether its clock is CLOCK_MONOTONIC_RAW
+}
+
+// An opened file is one that is not mapped.
+type opened struct {
+	*os.File
+	isRaw bool
 }
 
 // Open maps the file at this path, which this user, a name or a number, has to own. It refuses with NoFile and OtherFile, each
@@ -67,6 +75,9 @@ type mapping struct {
 //
 // A call that would refuse, or give a reading that is not Fresh, looks at the path, at most once a second. Where another file is
 // there, as behind a restart, the client opens that by the same rules, and answers by it.
+//
+// The clock is CLOCK_MONOTONIC. Where that of the file is CLOCK_MONOTONIC_RAW, which the runtime does not show, the file also has
+// the time by CLOCK_MONOTONIC: NoSlewed is the refusal while it has not. It reads version 3 of the format (TTS3).
 func Open(path, owner string) (*Client, error) { return open(path, owner, true) }
 
 // OpenUnmapped opens it as Open, and each call reads it, by three system calls.
@@ -96,7 +107,7 @@ func (c *Client) SetMaxWidth(width time.Duration) { c.hasMaxWidth, c.maxWidth = 
 // take opens the file at the path, and has it read in place of the one before. That one is closed, or unmapped once no
 // goroutine reads it.
 func (c *Client) take() error {
-	file, found, err := openFile(c.place.path, c.place.owner)
+	file, found, isRaw, err := openFile(c.place.path, c.place.owner)
 	if err != nil {
 		return err
 	}
@@ -106,10 +117,10 @@ func (c *Client) take() error {
 		if err != nil {
 			return &FileError{NoFile, err}
 		}
-		mapped := &mapping{(*[fileWords]uint64)(unsafe.Pointer(&bytes[0]))} // it begins at a page
+		mapped := &mapping{(*[fileWords]uint64)(unsafe.Pointer(&bytes[0])), isRaw} // it begins at a page
 		runtime.SetFinalizer(mapped, func(*mapping) { syscall.Munmap(bytes) })
 		atomic.StorePointer(&c.mapped, unsafe.Pointer(mapped))
-	} else if old := c.file.Swap(file); old != nil {
+	} else if old := c.file.Swap(&opened{file, isRaw}); old != nil {
 		old.Close()
 	}
 	c.place.read = found
@@ -145,8 +156,9 @@ func (c *Client) Close() error {
 	return nil
 }
 
-// Read gives the last publication. It refuses with Nothing, Busy and NoSlot, then with Nothing where nothing is published any
-// more, and with NoFile where the client is closed, or where the file is not mapped and has become shorter.
+// Read gives the last publication, by CLOCK_MONOTONIC. It refuses with Nothing, Busy and NoSlot, then with Nothing where nothing is
+// published any more and NoSlewed where that is not by CLOCK_MONOTONIC, and with NoFile where the client is closed, or where the file
+// is not mapped and has become shorter.
 func (c *Client) Read() (Publication, error) {
 	var published Publication
 	err := c.read(&published)
@@ -213,21 +225,11 @@ func (c *Client) read(published *Publication) error {
 		if isOdd(index) {
 			slot = (*[slotWords]uint64)(words[firstSlot+slotWords:])
 		}
-		echo := atomic.LoadUint64(&slot[0])
-		published.Clock = atomic.LoadUint64(&slot[1])
-		published.Lo = atomic.LoadUint64(&slot[2])
-		published.Hi = atomic.LoadUint64(&slot[3])
-		published.ValidUntil = atomic.LoadUint64(&slot[4])
-		published.Epoch = atomic.LoadUint64(&slot[5])
-		published.Number = atomic.LoadUint64(&slot[6])
-		published.Drift = atomic.LoadUint64(&slot[7])
-		published.UsableUntil = atomic.LoadUint64(&slot[8])
-		behind := atomic.LoadUint64(&slot[9]) | atomic.LoadUint64(&slot[10]) | atomic.LoadUint64(&slot[11]) |
-			atomic.LoadUint64(&slot[12]) | atomic.LoadUint64(&slot[13]) | atomic.LoadUint64(&slot[14]) | atomic.LoadUint64(&slot[15])
+		err := published.take(index, slot, mapped.isRaw)
 		again := atomic.LoadUint64(&words[indexWord])
 		runtime.KeepAlive(mapped) // it is not unmapped before
 		if again == index {
-			return published.refusal(index, echo, behind)
+			return err
 		}
 	}
 	return Busy
@@ -241,7 +243,7 @@ func (c *Client) readUnmapped(published *Publication) error {
 			return errClosed
 		}
 		var word [slotWords]uint64
-		index, again, err := copyUnmapped(file, &word)
+		index, again, err := copyUnmapped(file.File, &word)
 		if c.file.Load() != file {
 			continue // it was replaced, and closed
 		}
@@ -251,27 +253,43 @@ func (c *Client) readUnmapped(published *Publication) error {
 		if again != index {
 			continue
 		}
-		var behind uint64
-		for _, zero := range word[usedWords:] {
-			behind |= zero
-		}
-		*published = Publication{word[1], word[2], word[3], word[4], word[8], word[5], word[6], word[7]}
-		return published.refusal(index, word[0], behind)
+		return published.take(index, &word, file.isRaw)
 	}
 	return Busy
 }
 
-// refusal is the refusal of what was read at this index, or nil: Nothing, NoSlot, and Nothing where nothing is published any
-// more. The slot has to have the index, too, and zeros behind the publication.
-func (p *Publication) refusal(index, echo, behind uint64) error {
-	if index == 0 {
-		return Nothing
+// A base is a clock reading, the interval at it, and the drift since.
+type base struct {
+	clock, lo, hi, drift uint64
+}
+
+func (b base) isInRange() bool {
+	return b.clock <= MaxTime && b.lo <= b.hi && b.hi <= MaxTime && b.drift <= MaxDrift
+}
+
+// take copies the publication of the slot that is current at this index, by CLOCK_MONOTONIC: the first base, or the second one where
+// the clock of the file is the raw one. It gives the refusal, or nil: Nothing, NoSlot, Nothing where nothing is published any more,
+// and NoSlewed where there is no second base. Both are judged, whichever is read.
+func (p *Publication) take(index uint64, slot *[slotWords]uint64, isRaw bool) error {
+	echo, zero, usable := atomic.LoadUint64(&slot[0]), atomic.LoadUint64(&slot[15]), atomic.LoadUint64(&slot[8])
+	first := base{atomic.LoadUint64(&slot[1]), atomic.LoadUint64(&slot[2]), atomic.LoadUint64(&slot[3]), atomic.LoadUint64(&slot[7])}
+	slewed := base{atomic.LoadUint64(&slot[9]), atomic.LoadUint64(&slot[10]), atomic.LoadUint64(&slot[11]), atomic.LoadUint64(&slot[12])}
+	read, validUntil, usableUntil := first, &slot[4], &slot[8]
+	if isRaw {
+		read, validUntil, usableUntil = slewed, &slot[13], &slot[14]
 	}
-	if echo != index || !p.isInRange() || behind != 0 {
+	p.Clock, p.Lo, p.Hi, p.Drift = read.clock, read.lo, read.hi, read.drift
+	p.ValidUntil, p.UsableUntil = atomic.LoadUint64(validUntil), atomic.LoadUint64(usableUntil)
+	p.Epoch, p.Number = atomic.LoadUint64(&slot[5]), atomic.LoadUint64(&slot[6])
+	switch {
+	case index == 0:
+		return Nothing
+	case echo != index || zero != 0 || !first.isInRange() || !slewed.isInRange():
 		return NoSlot
-	}
-	if p.UsableUntil == 0 {
+	case usable == 0:
 		return Nothing
+	case p.UsableUntil == 0:
+		return NoSlewed
 	}
 	return nil
 }
@@ -316,24 +334,25 @@ func readWords(file *os.File, place int, words []uint64) error {
 	return nil
 }
 
-// openFile opens the file at this path, where it is such a file.
-func openFile(path string, owner uint64) (*os.File, fs.FileInfo, error) {
+// openFile opens the file at this path, where it is such a file, and says whether its clock is CLOCK_MONOTONIC_RAW.
+func openFile(path string, owner uint64) (*os.File, fs.FileInfo, bool, error) {
 	// A FIFO in place of the file does not block the opening.
 	file, err := os.OpenFile(path, os.O_RDONLY|syscall.O_NOFOLLOW|syscall.O_NONBLOCK, 0)
 	if err != nil {
-		return nil, nil, &FileError{NoFile, err}
+		return nil, nil, false, &FileError{NoFile, err}
 	}
+	var clock uint64
 	found, err := file.Stat()
 	if err != nil {
 		err = &FileError{NoFile, err}
 	} else {
-		err = checkFile(file, found, owner)
+		clock, err = clockOf(file, found, owner)
 	}
 	if err != nil {
 		file.Close()
-		return nil, nil, err
+		return nil, nil, false, err
 	}
-	return file, found, nil
+	return file, found, clock == clockMonotonicRaw, nil
 }
 
 // userOf gives the number of a user.
@@ -348,32 +367,35 @@ func userOf(owner string) (uint64, error) {
 	return strconv.ParseUint(found.Uid, 10, 32)
 }
 
-func checkFile(file *os.File, found fs.FileInfo, owner uint64) error {
+// clockOf gives the clock of an open file, where it is such a file.
+func clockOf(file *os.File, found fs.FileInfo, owner uint64) (uint64, error) {
 	of, ok := found.Sys().(*syscall.Stat_t)
 	switch {
 	case !ok || !found.Mode().IsRegular() || found.Size() != fileBytes:
-		return &FileError{OtherFile, ErrFileKind}
+		return 0, &FileError{OtherFile, ErrFileKind}
 	case uint64(of.Uid) != owner:
-		return &FileError{OtherFile, ErrFileOwner}
+		return 0, &FileError{OtherFile, ErrFileOwner}
 	case found.Mode().Perm()&0o022 != 0:
-		return &FileError{OtherFile, ErrFileWritable}
+		return 0, &FileError{OtherFile, ErrFileWritable}
 	}
 	var bytes [8 * firstSlot]byte
 	if _, err := file.ReadAt(bytes[:], 0); err != nil {
-		return &FileError{NoFile, err}
+		return 0, &FileError{NoFile, err}
 	}
+	clock := binary.LittleEndian.Uint64(bytes[len(head):])
+	isClock := clock == clockMonotonic || clock == clockMonotonicRaw
 	// The boot has 36 letters, and 4 zeros follow.
-	if string(bytes[:len(head)]) != head || string(bytes[60:]) != "\x00\x00\x00\x00" {
-		return &FileError{OtherFile, ErrFileFormat}
+	if string(bytes[:len(head)]) != head || !isClock || string(bytes[60:]) != "\x00\x00\x00\x00" {
+		return 0, &FileError{OtherFile, ErrFileFormat}
 	}
 	if !isSameClock(string(bytes[24:60])) {
-		return &FileError{OtherFile, ErrFileClock}
+		return 0, &FileError{OtherFile, ErrFileClock}
 	}
-	return nil
+	return clock, nil
 }
 
-// isSameClock says whether CLOCK_MONOTONIC is here what it is to the daemon: the same boot, and no time namespace that
-// shifts it.
+// isSameClock says whether both clocks are here what they are to the daemon: the same boot, and no time namespace that
+// shifts them.
 func isSameClock(boot string) bool {
 	here, err := os.ReadFile("/proc/sys/kernel/random/boot_id")
 	if err != nil || !strings.HasPrefix(string(here), boot) {

@@ -198,14 +198,17 @@ func (s *Stamper) Left(stamp int64) (time.Duration, error) {
 // context's error. It takes a reading before the first sleep and after each, also once the context has ended, and sleeps as
 // long as the timestamp is ahead of the earliest, at most 50 milliseconds at once.
 //
-// It refuses as Client.Now, at once. The timestamp is as it was after each error: wait again.
+// It refuses as Client.Now, at once, but for NoSlewed: that passes with a round of the daemon, so it sleeps and looks again. The
+// timestamp is as it was after each error: wait again.
 func (s *Stamper) WaitPast(ctx context.Context, stamp int64) (bool, error) {
 	for {
 		sleep, err := s.Left(stamp)
-		if err != nil {
+		switch {
+		case err == NoSlewed:
+			sleep = longestSleep
+		case err != nil:
 			return false, err
-		}
-		if sleep == 0 {
+		case sleep == 0:
 			return true, nil
 		}
 		if err := ctx.Err(); err != nil {

@@ -104,7 +104,7 @@ func TestReadingsOfStamps(t *testing.T) {
 }
 
 func TestReadingRefusesFirst(t *testing.T) {
-	var words page
+	words := page{1: clockMonotonic}
 	stamper := stamperOn(t, &words, Lease{far, far})
 	wantTimestamp(t, stamper, 1<<63-1, 0, Nothing)
 	for count, try := range []struct {
@@ -123,6 +123,36 @@ func TestReadingRefusesFirst(t *testing.T) {
 	}
 	words.publishNow(4, 1_000, 2_000, noLimit)
 	wantTimestamp(t, stamper, 0, far, nil)
+}
+
+// TestWithdrawn has nothing published by CLOCK_MONOTONIC for a while: stamps and looks are refused, and a wait lasts until something
+// is again, or the context ends.
+func TestWithdrawn(t *testing.T) {
+	var words page
+	words.publishNow(1, 1_000_000_000, 1_000_000_000, noLimit)
+	stamper := NewStamper(words.client())
+	given, err := stamper.Stamp(0)
+	if err != nil {
+		t.Fatal(err)
+	}
+	words.publishNow(2, 2_000_000_000, 2_000_000_000, 0)
+	wantTimestamp(t, stamper, 0, 0, NoSlewed)
+	if is, err := stamper.IsPast(given.Timestamp); is || err != NoSlewed {
+		t.Error(is, err)
+	}
+	if left, err := stamper.Left(given.Timestamp); left != 0 || err != NoSlewed {
+		t.Error(left, err)
+	}
+	short, cancel := context.WithTimeout(always, 10*time.Millisecond)
+	defer cancel()
+	if is, err := stamper.WaitPast(short, given.Timestamp); is || err != context.DeadlineExceeded {
+		t.Error(is, err)
+	}
+	began := time.Now()
+	time.AfterFunc(80*time.Millisecond, func() { words.publishNow(3, 3_000_000_000, 3_000_000_000, noLimit) })
+	if is, err := stamper.WaitPast(always, given.Timestamp); !is || err != nil || time.Since(began) < 80*time.Millisecond {
+		t.Error(is, err, time.Since(began))
+	}
 }
 
 func TestWaitPast(t *testing.T) {

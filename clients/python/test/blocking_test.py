@@ -16,6 +16,7 @@ import tempfile
 import threading
 import time
 import unittest
+from unittest import mock
 
 sys.path.insert(0, str(pathlib.Path(__file__).resolve().parent.parent))
 
@@ -24,13 +25,13 @@ import truetime  # noqa: E402
 ALWAYS = 2**64 - 1
 
 
-def file_bytes(magic=b"TTS2", boot=None):
-    """A file of one publication."""
+def file_bytes(magic=b"TTS3", boot=None, clock=time.CLOCK_MONOTONIC_RAW, first=(1, 20, 30, ALWAYS, 7, 1, 0, ALWAYS), second=(0,) * 7):
+    """A file of one publication by this clock."""
     with open("/proc/sys/kernel/random/boot_id", "rb") as file:
         boot = boot or file.read(36)
     index = (1).to_bytes(8, "little")
-    slot = (index + struct.pack("<8Q", 1, 20, 30, ALWAYS, 7, 1, 0, ALWAYS)).ljust(128, b"\0")
-    return magic + struct.pack("<IQ", 320, 1) + index + boot + bytes(4) + bytes(128) + slot
+    slot = index + struct.pack("<15Q", *first, *second)
+    return magic + struct.pack("<IQ", 320, clock) + index + boot + bytes(4) + bytes(128) + slot
 
 
 class Files(unittest.TestCase):
@@ -66,11 +67,50 @@ class Files(unittest.TestCase):
         for content, mode, why in (
             (file_bytes()[:-1], 0o644, "it is no file of 320 bytes"), (file_bytes(), 0o664, "others may write to it"),
             (file_bytes(magic=b"TTS1"), 0o644, "it is of another format, or of another version"),
+            (file_bytes(magic=b"TTS2", clock=1), 0o644, "it is of another format, or of another version"),
+            (file_bytes(clock=7), 0o644, "it is of another format, or of another version"),
             (file_bytes(boot=b"x" * 36), 0o644, "it is of another boot, or of another clock"),
         ):
             self.write(content, mode)
             refused = self.refusal()
             self.assertEqual((refused.number, str(refused).partition("clock: ")[2]), (1702, why))
+
+    def test_the_clock_is_that_of_the_file(self):
+        first, second = (1000, 5, 15, 6000, 7, 1, 200, 7000), (500_000, 7000, 8000, 1400, 600_000, 700_000, 0)
+        raw, slewed = time.CLOCK_MONOTONIC_RAW, time.CLOCK_MONOTONIC
+        for mapped in (True, False):
+            self.write(file_bytes(first=first, second=second))
+            client = truetime.Client(self.path, os.geteuid(), mapped)
+            for epoch, (clock, other) in enumerate([(raw, slewed), (slewed, raw), (raw, slewed), (raw, slewed), (slewed, raw)]):
+                with open(self.path + ".new", "wb") as file:
+                    file.write(file_bytes(clock=clock, first=(*first[:4], epoch, *first[5:]), second=second))
+                os.replace(self.path + ".new", self.path)
+                client._next_look_ns = 0
+                for shown, beside, wanted in (
+                    (10**9, 10**9, 1708), (6000, 3000, (5004, 5016, True)), (6001, 3000, (5004, 5018, False)), (7000, 3000, (6003, 6017, False)),
+                    (7001, 3000, 1708), (999, 3000, 802), (6000, 10**9, (5004, 5016, True)),
+                ):
+                    with mock.patch("truetime.readers.time.clock_gettime_ns", {clock: shown, other: beside}.__getitem__):
+                        try:
+                            now = client.now()
+                            came = now.earliest_ns, now.latest_ns, now.fresh, now.epoch
+                            self.assertEqual(came, (*wanted, epoch), (mapped, shown))
+                        except truetime.Refused as refused:
+                            self.assertEqual(refused.number, wanted, (mapped, epoch, shown))
+                self.assertEqual(client.read()[-1], clock)
+            client.close()
+
+    def test_what_no_daemon_writes(self):
+        good = [1000, 5, 15, 200, 600_000, 700_000, 0]
+        for place, number in [(0, truetime.MAX_TIME_NS), (2, truetime.MAX_TIME_NS), (3, 100_000), (4, ALWAYS), (4, 0), (5, ALWAYS), (5, 0)]:
+            self.write(file_bytes(second=(*good[:place], number, *good[place + 1:])))
+            with truetime.Client(self.path, os.geteuid()) as client:
+                self.assertEqual(client.read(), (1, 20, 30, ALWAYS, ALWAYS, 7, 1, 0, time.CLOCK_MONOTONIC_RAW))
+        for place, number in [(0, truetime.MAX_TIME_NS + 1), (1, 16), (2, truetime.MAX_TIME_NS + 1), (3, 100_001), (6, 1)]:
+            self.write(file_bytes(second=(*good[:place], number, *good[place + 1:])))
+            with truetime.Client(self.path, os.geteuid()) as client, self.assertRaises(truetime.Refused) as caught:
+                client.read()
+            self.assertEqual(caught.exception.number, 1703)
 
     def test_limits_of_stampers(self):
         for limits in {"ahead_ns": -1}, {"ahead_ns": truetime.MAX_AHEAD_NS + 1}, {"grid_ns": 0}, {"grid_ns": truetime.MAX_GRID_NS + 1}:

@@ -7,6 +7,7 @@ import os
 import pathlib
 import sys
 import threading
+import time
 
 sys.path.insert(0, str(pathlib.Path(__file__).resolve().parent.parent))
 
@@ -28,9 +29,16 @@ def answer(lines):
 def open_file(path):
     try:
         with truetime.Client(path, os.geteuid()) as client:
-            print("published", *client.read())
+            print("published", *client.read()[:8])
     except truetime.Refused as refused:
         print("refused", refused.number)
+
+
+def read_at(client, monotonic, raw):
+    """The reading of a file where the clocks show these, behind the number of the clock that is read."""
+    published = client.read()
+    reading = published.read_at(raw if published.clock_id == time.CLOCK_MONOTONIC_RAW else monotonic)
+    return (published.clock_id, *reading[:4], "fresh" if reading.fresh else "stale")
 
 
 def try_files(lines):
@@ -38,11 +46,14 @@ def try_files(lines):
     for line in lines:
         name, _, path = line.rstrip("\n").partition(" ")
         try:
-            if name == "open":
+            if name == "at":
+                print(*read_at(client, *map(int, path.split())), flush=True)
+                continue
+            if name in ("open", "map"):
                 if client:
                     client.close()
-                client = truetime.Client(path, os.geteuid(), mapped=False)
-            print("published", *client.read(), flush=True)
+                client = truetime.Client(path, os.geteuid(), mapped=name == "map")
+            print("published", *client.read()[:8], flush=True)
         except truetime.Refused as refused:
             print("refused", refused.number, flush=True)
 

@@ -34,8 +34,9 @@ A stamper's waits, and those of a :class:`PendingTable`, block the thread. With 
 Where an owner of the file or of its folder truncates the file, a mapped one raises SIGBUS, which ends Python. With
 ``Client(path, owner, mapped=False)`` a call refuses instead; it makes three system calls more.
 
-Reads version 2 of the format (its first four bytes are TTS2), and refuses a file of version 1 with 1702. Needs Linux on
-a little-endian 64-bit machine, Python 3.9 or later, and nothing but the standard library.
+The clock is that of the file: CLOCK_MONOTONIC_RAW, or CLOCK_MONOTONIC. Reads version 3 of the format (its first four
+bytes are TTS3), and refuses another version with 1702. Needs Linux on a little-endian 64-bit machine, Python 3.9 or
+later, and nothing but the standard library.
 """
 import logging
 

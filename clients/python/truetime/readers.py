@@ -19,12 +19,13 @@ _BYTES = 320
 _INDEX_AT = 16
 _SLOTS_AT = (64, 192)
 _TRIES = 1000
-_HEAD = b"TTS2\x40\1\0\0\1\0\0\0\0\0\0\0"
+_HEAD = b"TTS3\x40\1\0\0"
+# The clocks that a file may have, by their numbers in Linux, which are those of Python.
+_CLOCKS = (time.CLOCK_MONOTONIC, time.CLOCK_MONOTONIC_RAW)
 _LOWEST_BITS = 0x0101010101010101
 # "@" makes CPython copy each number as one word of eight bytes; "<" or "=" would copy it byte by byte.
 _WORD = struct.Struct("@Q")
 _SLOT = struct.Struct("@16Q")
-_USED_WORDS = 9
 # The time from one look at the path to the next.
 _LOOK_NS = 1_000_000_000
 
@@ -52,7 +53,7 @@ class Reading(NamedTuple):
 class Publication(NamedTuple):
     """What the daemon published."""
 
-    #: The machine's clock at the fusion.
+    #: The machine's clock at the fusion: that of ``clock_id``, as all readings here.
     clock_ns: int
     #: The interval that held the true time then.
     lo_ns: int
@@ -65,6 +66,8 @@ class Publication(NamedTuple):
     number: int
     #: How far the clock may drift.
     drift_ppm: int
+    #: Which clock it is: ``time.CLOCK_MONOTONIC`` or ``time.CLOCK_MONOTONIC_RAW``.
+    clock_id: int = time.CLOCK_MONOTONIC
 
     def read_at(self, clock_ns: int) -> Reading:
         """The reading of this publication at a clock reading. Refuses with 802 and 1708."""
@@ -86,12 +89,12 @@ class Publication(NamedTuple):
 class _Opened:
     """A file that is open. It is unmapped or closed with the last reference, that of a call that reads it."""
 
-    __slots__ = ("mapped", "number", "_key")
+    __slots__ = ("mapped", "number", "clock_id", "_key")
 
     def __init__(self, path: str, owner: int, is_mapped: bool) -> None:
         self.mapped: Optional[mmap.mmap] = None
         self.number = -1
-        self.number, found = _opened(path, owner)
+        self.number, found, self.clock_id = _opened(path, owner)
         self._key = found.st_dev, found.st_ino
         if is_mapped:
             try:
@@ -196,7 +199,7 @@ class Client:
         published = self._read()
         # The clock is read after the publication, so it is not below that of the publication.
         try:
-            clock_ns = time.clock_gettime_ns(time.CLOCK_MONOTONIC)
+            clock_ns = time.clock_gettime_ns(published.clock_id)
         except OSError as failed:
             raise Refused(803) from failed
         now = published.read_at(clock_ns)
@@ -216,8 +219,8 @@ class Client:
                 continue
             if index == 0:
                 raise Refused(801)
-            published = Publication(word[1], word[2], word[3], word[4], word[8], word[5], word[6], word[7])
-            if word[0] != index or not _is_in_range(published) or any(word[_USED_WORDS:]):
+            published = Publication(word[1], word[2], word[3], word[4], word[8], word[5], word[6], word[7], opened.clock_id)
+            if not _is_slot(index, word):
                 raise Refused(1703)
             if published.usable_until_ns == 0:
                 raise Refused(801)
@@ -251,11 +254,19 @@ def _copied(mapped: mmap.mmap) -> "tuple[int, tuple[int, ...], int]":
     return index, slot, _WORD.unpack_from(mapped, _INDEX_AT)[0]
 
 
-def _is_in_range(published: Publication) -> bool:
+def _is_slot(index: int, word: "tuple[int, ...]") -> bool:
+    """Whether a daemon may have written this slot for this index."""
+    # The second base, by CLOCK_MONOTONIC, is for who cannot read the clock of the file: it has to be one, and is not read.
+    echo, clock, lo, hi, _, _, _, drift, _, slewed, slewed_lo, slewed_hi, slewed_drift, _, _, zero = word
     return (
-        published.clock_ns <= MAX_TIME_NS
-        and published.lo_ns <= published.hi_ns <= MAX_TIME_NS
-        and published.drift_ppm <= MAX_DRIFT_PPM
+        echo == index
+        and clock <= MAX_TIME_NS
+        and lo <= hi <= MAX_TIME_NS
+        and drift <= MAX_DRIFT_PPM
+        and slewed <= MAX_TIME_NS
+        and slewed_lo <= slewed_hi <= MAX_TIME_NS
+        and slewed_drift <= MAX_DRIFT_PPM
+        and zero == 0
     )
 
 
@@ -283,40 +294,41 @@ def _user_of(owner: Union[int, str]) -> int:
         raise Refused(1702, f": there is no user {owner}") from unknown
 
 
-def _opened(path: str, owner: int) -> "tuple[int, os.stat_result]":
-    """The descriptor of the file at this path, where it is such a file, and what it is."""
+def _opened(path: str, owner: int) -> "tuple[int, os.stat_result, int]":
+    """The descriptor of the file at this path, where it is such a file, what it is, and its clock."""
     try:
         file = os.open(path, os.O_RDONLY | os.O_CLOEXEC | os.O_NOFOLLOW | os.O_NONBLOCK)
     except OSError as failed:
         raise Refused(1701) from failed
     try:
         found = os.fstat(file)
-        fault = _fault_of(file, found, owner)
+        fault, clock_id = _fault_of(file, found, owner)
     except OSError as failed:
         os.close(file)
         raise Refused(1701) from failed
     if fault:
         os.close(file)
         raise Refused(1702, f": {fault}")
-    return file, found
+    return file, found, clock_id
 
 
-def _fault_of(file: int, found: os.stat_result, owner: int) -> str:
-    """Which of the checks an open file does not pass; nothing where it passes all."""
+def _fault_of(file: int, found: os.stat_result, owner: int) -> "tuple[str, int]":
+    """Which of the checks an open file does not pass; nothing where it passes all, and its clock."""
     if not stat.S_ISREG(found.st_mode) or found.st_size != _BYTES:
-        return f"it is no file of {_BYTES} bytes"
+        return f"it is no file of {_BYTES} bytes", 0
     if found.st_uid != owner:
-        return f"its owner is the user {found.st_uid}, not {owner}"
+        return f"its owner is the user {found.st_uid}, not {owner}", 0
     if found.st_mode & (stat.S_IWGRP | stat.S_IWOTH):
-        return "others may write to it"
+        return "others may write to it", 0
     head = os.pread(file, 64, 0)
-    if head[:16] != _HEAD or head[60:] != bytes(4):
-        return "it is of another format, or of another version"
-    return "" if _is_same_clock(head[24:60]) else "it is of another boot, or of another clock"
+    clock_id = int.from_bytes(head[8:16], "little")
+    if head[:8] != _HEAD or clock_id not in _CLOCKS or head[60:] != bytes(4):
+        return "it is of another format, or of another version", 0
+    return "" if _is_same_clock(head[24:60]) else "it is of another boot, or of another clock", clock_id
 
 
 def _is_same_clock(boot: bytes) -> bool:
-    """Whether CLOCK_MONOTONIC is here what it is to the daemon: the same boot, and no time namespace that shifts it."""
+    """Whether both clocks are here what they are to the daemon: the same boot, and no time namespace that shifts them."""
     try:
         with open("/proc/sys/kernel/random/boot_id", "rb") as file:
             if file.read(36) != boot:

@@ -27,6 +27,7 @@ _MEANINGS = {
     1703: "no daemon wrote what stands there",
     1704: "another publication came during each of the tries",
     1708: "the clock is past the last reading at which the publication may be used",
+    1710: "the file gives nothing by CLOCK_MONOTONIC",
     1821: "the floor, or the lower end of the lease, is further ahead than the machine allows",
     1822: "the commit is pending no more: its connection broke, or the machine ends",
     1823: "the machine knows that an assumption of the service is broken",
@@ -58,6 +59,7 @@ class Refusal(enum.IntEnum):
     NO_SLOT = 1703
     BUSY = 1704
     TOO_WIDE = 1708
+    NO_SLEWED = 1710
     FLOOR_ABOVE_CAP = 1821
     COMMIT_GONE = 1822
     BROKEN = 1823

@@ -8,7 +8,7 @@ use std::sync::{Arc, Barrier, Mutex};
 use std::thread;
 use std::time::{Duration, Instant};
 use truetime::stamper::{Lease, Stamp, MAX_AHEAD_NS};
-use truetime::{Client, Error, PendingTable, Pool, Pooled, Publication, Session, Stamper};
+use truetime::{Client, Clock, Error, PendingTable, Pool, Pooled, Publication, Session, Stamper};
 
 fn answer_vectors() -> io::Result<()> {
     let mut out = BufWriter::new(io::stdout().lock());
@@ -17,7 +17,8 @@ fn answer_vectors() -> io::Result<()> {
         let [clock_ns, lo_ns, hi_ns, drift_ppm, usable_until_ns, now_ns, valid_until_ns, epoch, number, t_ns] = numbers[..] else {
             panic!("ten numbers")
         };
-        let published = Publication { clock_ns, lo_ns, hi_ns, valid_until_ns, usable_until_ns, epoch, number, drift_ppm };
+        let clock = Clock::Monotonic;
+        let published = Publication { clock, clock_ns, lo_ns, hi_ns, valid_until_ns, usable_until_ns, epoch, number, drift_ppm };
         let yes_or_no = |answer| if answer { "yes" } else { "no" };
         match published.read_at(now_ns) {
             Ok(reading) => {
@@ -49,11 +50,32 @@ fn print_publication(read: Result<Publication, Error>) {
     }
 }
 
+/// The reading of a file where the clocks show these, behind the number of the clock that is read.
+fn print_at(published: Result<Publication, Error>, [monotonic_ns, raw_ns]: [u64; 2]) {
+    let reading_of = |p: Publication| {
+        let reading = p.read_at(if p.clock == Clock::MonotonicRaw { raw_ns } else { monotonic_ns })?;
+        Ok((p.clock.number(), reading))
+    };
+    match published.and_then(reading_of) {
+        Ok((clock, r)) => {
+            let fresh = if r.fresh { "fresh" } else { "stale" };
+            println!("{clock} {} {} {} {} {fresh}", r.earliest_ns, r.latest_ns, r.epoch, r.number)
+        }
+        Err(error) => println!("{}", said_of_error(&error)),
+    }
+}
+
 fn try_files() -> io::Result<()> {
-    let mut client = None;
+    let mut client: Option<Client> = None;
     for line in io::stdin().lines() {
-        let opened = match line?.strip_prefix("open ") {
-            Some(path) => Client::open_unmapped(path, user()).map(|opened| client = Some(opened)),
+        let line = line?;
+        if let Some(clocks) = line.strip_prefix("at ") {
+            print_at(client.as_ref().expect("a file").read(), numbers_of(clocks));
+            continue;
+        }
+        let opened = match line.split_once(' ') {
+            Some(("open", path)) => Client::open_unmapped(path, user()).map(|opened| client = Some(opened)),
+            Some((_, path)) => Client::open(path, user()).map(|opened| client = Some(opened)),
             None => Ok(()),
         };
         if opened.is_err() {

@@ -63,6 +63,7 @@ refusals! {
     NoSlot = 1703 => "no daemon wrote what stands there",
     Busy = 1704 => "another publication came during each of the tries",
     TooWide = 1708 => "the clock is past the last reading at which the publication may be used",
+    NoSlewed = 1710 => "the file gives nothing by CLOCK_MONOTONIC",
     FloorAboveCap = 1821 => "the floor, or the lower end of the lease, is further ahead than the machine allows",
     CommitGone = 1822 => "the commit is pending no more: its connection broke, or the machine ends",
     Broken = 1823 => "the machine knows that an assumption of the service is broken",

@@ -17,7 +17,8 @@
 //! A call that would refuse, or give a reading that is not fresh, looks at the path, at most once a second. Where another file is
 //! there, as behind a restart, the client opens that by the same rules, and answers by it.
 //!
-//! Reads version 2 of the format (its first four bytes are `TTS2`), and refuses a file of version 1 with 1702. Needs Linux on a little-endian 64-bit machine.
+//! The clock is that of the file: `CLOCK_MONOTONIC_RAW`, or `CLOCK_MONOTONIC`. Reads version 3 of the format (its first four bytes
+//! are `TTS3`), and refuses another version with 1702. Needs Linux on a little-endian 64-bit machine.
 #![warn(missing_docs)]
 
 #[cfg(not(all(target_os = "linux", target_endian = "little", target_pointer_width = "64")))]
@@ -47,7 +48,7 @@ use std::os::fd::{AsRawFd, RawFd};
 use std::os::unix::fs::{FileExt, MetadataExt, OpenOptionsExt};
 use std::path::{Path, PathBuf};
 use std::ptr;
-use std::sync::atomic::{fence, AtomicU64, AtomicUsize, Ordering};
+use std::sync::atomic::{fence, AtomicBool, AtomicU64, AtomicUsize, Ordering};
 use std::sync::{Arc, Mutex, MutexGuard, PoisonError};
 
 /// The greatest time and the greatest clock reading, in nanoseconds.
@@ -61,7 +62,7 @@ const INDEX_WORD: usize = 2;
 const FIRST_SLOT: usize = 8;
 const SLOT_WORDS: usize = 16;
 const TRIES: usize = 1000;
-const HEAD: [u64; 2] = [0x0000_0140_3253_5454, 1];
+const HEAD: u64 = 0x0000_0140_3353_5454;
 const LOWEST_BITS: u64 = 0x0101_0101_0101_0101;
 /// How far the two pages of a reader are apart: as long as the longest page.
 const APART: usize = 1 << 16;
@@ -132,10 +133,33 @@ impl Reading {
     }
 }
 
+/// A clock that a file may have.
+#[derive(Clone, Copy, Debug, PartialEq, Eq, Hash)]
+pub enum Clock {
+    /// `CLOCK_MONOTONIC`, which a daemon of NTP slews.
+    Monotonic = 1,
+    /// `CLOCK_MONOTONIC_RAW`, which nobody slews.
+    MonotonicRaw = 4,
+}
+
+impl Clock {
+    /// Its number in Linux.
+    pub fn number(self) -> u64 {
+        self as u64
+    }
+
+    /// The clock of this number.
+    pub fn of(number: u64) -> Option<Clock> {
+        [Clock::Monotonic, Clock::MonotonicRaw].into_iter().find(|clock| clock.number() == number)
+    }
+}
+
 /// What the daemon published.
 #[derive(Clone, Copy, Debug, PartialEq, Eq)]
 pub struct Publication {
-    /// The machine's clock at the fusion.
+    /// Which clock the readings here are of.
+    pub clock: Clock,
+    /// That clock at the fusion.
     pub clock_ns: u64,
     /// The lower end of the interval that held the true time then.
     pub lo_ns: u64,
@@ -173,13 +197,22 @@ impl Publication {
             fresh: clock_ns <= self.valid_until_ns,
         })
     }
+}
 
-    fn is_in_range(&self) -> bool {
-        self.clock_ns <= MAX_TIME_NS
-            && self.lo_ns <= self.hi_ns
-            && self.hi_ns <= MAX_TIME_NS
-            && self.drift_ppm <= MAX_DRIFT_PPM
-    }
+/// Whether a daemon may have written a slot with these words for this index.
+#[inline]
+fn is_slot(index: u64, word: &[u64; SLOT_WORDS]) -> bool {
+    // The second base, by `CLOCK_MONOTONIC`, is for who cannot read the clock of the file: it has to be one, and is not read.
+    let [echo, clock_ns, lo_ns, hi_ns, _, _, _, drift_ppm, _, slewed_ns, slewed_lo_ns, slewed_hi_ns, slewed_drift_ppm, _, _, zero] = *word;
+    echo == index
+        && zero == 0
+        && is_base(clock_ns, lo_ns, hi_ns, drift_ppm)
+        && is_base(slewed_ns, slewed_lo_ns, slewed_hi_ns, slewed_drift_ppm)
+}
+
+#[inline]
+fn is_base(clock_ns: u64, lo_ns: u64, hi_ns: u64, drift_ppm: u64) -> bool {
+    clock_ns <= MAX_TIME_NS && lo_ns <= hi_ns && hi_ns <= MAX_TIME_NS && drift_ppm <= MAX_DRIFT_PPM
 }
 
 /// What a clock may be wrong by after `elapsed` nanoseconds, up to `MAX_TIME_NS`: rounded up, at most as many. Nothing
@@ -206,7 +239,14 @@ pub struct Client {
 enum Source {
     Mapped(Pages),
     /// The file is closed by the last call that reads it.
-    Unmapped(Mutex<Arc<File>>),
+    Unmapped(Mutex<Arc<Opened>>),
+}
+
+/// A file that is open, and its clock.
+#[derive(Debug)]
+struct Opened {
+    file: File,
+    clock: Clock,
 }
 
 /// Where the file is, and which one is read.
@@ -223,17 +263,17 @@ struct Place {
 impl Client {
     /// Maps the file at this path, which the user `owner` has to own: a name or a number. Refuses with `NoFile` and `OtherFile`.
     pub fn open(path: impl AsRef<Path>, owner: impl Into<Owner>) -> Result<Client, Error> {
-        Client::with(path.as_ref(), owner.into().id()?, |file| Ok(Source::Mapped(Pages::map(&file)?)))
+        Client::with(path.as_ref(), owner.into().id()?, |opened| Ok(Source::Mapped(Pages::map(&opened)?)))
     }
 
     /// Opens it as `open`, and each call reads it.
     pub fn open_unmapped(path: impl AsRef<Path>, owner: impl Into<Owner>) -> Result<Client, Error> {
-        Client::with(path.as_ref(), owner.into().id()?, |file| Ok(Source::Unmapped(Mutex::new(Arc::new(file)))))
+        Client::with(path.as_ref(), owner.into().id()?, |opened| Ok(Source::Unmapped(Mutex::new(Arc::new(opened)))))
     }
 
-    fn with(path: &Path, owner: u32, source: impl FnOnce(File) -> io::Result<Source>) -> Result<Client, Error> {
-        let (file, found) = open_file(path, owner)?;
-        let source = source(file).map_err(Error::NoFile)?;
+    fn with(path: &Path, owner: u32, source: impl FnOnce(Opened) -> io::Result<Source>) -> Result<Client, Error> {
+        let (opened, found) = open_file(path, owner)?;
+        let source = source(opened).map_err(Error::NoFile)?;
         // A path that does not begin at the root is one from here, also where the process goes elsewhere.
         let path = env::current_dir().map_or_else(|_| path.to_path_buf(), |here| here.join(path));
         let place = Place { path, owner, next_look_ns: AtomicU64::new(0), read: Mutex::new((found.dev(), found.ino())) };
@@ -286,18 +326,18 @@ impl Client {
     fn now_once(&self) -> Result<Reading, Error> {
         let published = self.read_once()?;
         // The clock is read after the publication, so it is not below that of the publication.
-        published.read_at(os::clock_ns().ok_or(Refused::ClockFailed)?)
+        published.read_at(os::clock_ns(published.clock).ok_or(Refused::ClockFailed)?)
     }
 
     /// `read` by the file that is open.
     #[inline]
     fn read_once(&self) -> Result<Publication, Error> {
         for _ in 0..TRIES {
-            let (index, word, again) = match &self.source {
+            let (index, word, again, clock) = match &self.source {
                 Source::Mapped(pages) => pages.copy(),
-                Source::Unmapped(file) => {
-                    let file = Arc::clone(&lock(file));
-                    copy(&file).map_err(Error::NoFile)?
+                Source::Unmapped(opened) => {
+                    let opened = Arc::clone(&lock(opened));
+                    copy(&opened).map_err(Error::NoFile)?
                 }
             };
             if again != index {
@@ -306,11 +346,11 @@ impl Client {
             if index == 0 {
                 return Err(Refused::Nothing.into());
             }
-            let [echo, clock_ns, lo_ns, hi_ns, valid_until_ns, epoch, number, drift_ppm, usable_until_ns, zeros @ ..] = word;
-            let published = Publication { clock_ns, lo_ns, hi_ns, valid_until_ns, usable_until_ns, epoch, number, drift_ppm };
-            if echo != index || !published.is_in_range() || zeros.iter().any(|&word| word != 0) {
+            if !is_slot(index, &word) {
                 return Err(Refused::NoSlot.into());
             }
+            let [_, clock_ns, lo_ns, hi_ns, valid_until_ns, epoch, number, drift_ppm, usable_until_ns, ..] = word;
+            let published = Publication { clock, clock_ns, lo_ns, hi_ns, valid_until_ns, usable_until_ns, epoch, number, drift_ppm };
             return if usable_until_ns == 0 { Err(Refused::Nothing.into()) } else { Ok(published) };
         }
         Err(Refused::Busy.into())
@@ -322,7 +362,7 @@ impl Client {
     #[inline(never)]
     fn is_renewed(&self) -> bool {
         let place = &self.place;
-        let (Some(now_ns), Ok(mut read)) = (os::clock_ns(), place.read.try_lock()) else { return false };
+        let (Some(now_ns), Ok(mut read)) = (os::clock_ns(Clock::Monotonic), place.read.try_lock()) else { return false };
         if now_ns < place.next_look_ns.load(Ordering::Relaxed) {
             return false;
         }
@@ -330,11 +370,11 @@ impl Client {
         if fs::symlink_metadata(&place.path).map_or(true, |there| *read == (there.dev(), there.ino())) {
             return false;
         }
-        let Ok((file, found)) = open_file(&place.path, place.owner) else { return false };
+        let Ok((opened, found)) = open_file(&place.path, place.owner) else { return false };
         match &self.source {
-            Source::Mapped(pages) if !pages.replace(&file) => return false,
+            Source::Mapped(pages) if !pages.replace(&opened) => return false,
             Source::Mapped(_) => {}
-            Source::Unmapped(old) => *lock(old) = Arc::new(file),
+            Source::Unmapped(old) => *lock(old) = Arc::new(opened),
         }
         *read = (found.dev(), found.ino());
         true
@@ -345,8 +385,8 @@ fn lock<T>(of: &Mutex<T>) -> MutexGuard<'_, T> {
     of.lock().unwrap_or_else(PoisonError::into_inner)
 }
 
-/// The index, the slot that is current at it, and the index again.
-type Copied = (u64, [u64; SLOT_WORDS], u64);
+/// The index, the slot that is current at it, the index again, and the clock of the file.
+type Copied = (u64, [u64; SLOT_WORDS], u64, Clock);
 
 /// The word at which the slot begins that is current at this index.
 #[inline]
@@ -362,6 +402,8 @@ fn slot_of(index: u64) -> usize {
 struct Pages {
     at: *mut u8,
     turn: AtomicUsize,
+    /// Whether the clock of the file at each page is the raw one.
+    is_raw: [AtomicBool; 2],
 }
 
 // SAFETY: the pages stay until this is dropped, and are read by atomic loads alone.
@@ -369,15 +411,15 @@ unsafe impl Send for Pages {}
 unsafe impl Sync for Pages {}
 
 impl Pages {
-    fn map(file: &File) -> io::Result<Pages> {
+    fn map(opened: &Opened) -> io::Result<Pages> {
         let kind = os::MAP_PRIVATE | os::MAP_ANONYMOUS;
         // SAFETY: a new mapping of no file, for reading alone.
         let at = unsafe { os::mmap(ptr::null_mut(), 2 * APART, os::PROT_READ, kind, -1, 0) };
         if at as isize == -1 {
             return Err(io::Error::last_os_error());
         }
-        let pages = Pages { at: at.cast(), turn: AtomicUsize::new(0) };
-        pages.put(0, Some(file))?;
+        let pages = Pages { at: at.cast(), turn: AtomicUsize::new(0), is_raw: Default::default() };
+        pages.put(0, Some(opened))?;
         Ok(pages)
     }
 
@@ -389,18 +431,20 @@ impl Pages {
     }
 
     /// Maps a file, or nothing, in place of what is at the page of a turn.
-    fn put(&self, turn: usize, file: Option<&File>) -> io::Result<()> {
+    fn put(&self, turn: usize, opened: Option<&Opened>) -> io::Result<()> {
         let none: RawFd = -1;
-        let (kind, file) = file.map_or((os::MAP_PRIVATE | os::MAP_ANONYMOUS, none), |file| (os::MAP_SHARED, file.as_raw_fd()));
+        let (kind, file) = opened.map_or((os::MAP_PRIVATE | os::MAP_ANONYMOUS, none), |it| (os::MAP_SHARED, it.file.as_raw_fd()));
+        let is_raw = opened.is_some_and(|it| it.clock == Clock::MonotonicRaw);
+        self.is_raw[turn % 2].store(is_raw, Ordering::SeqCst);
         // SAFETY: the page is this one's. Who reads there meanwhile loads words of the one or of the other.
         let put = unsafe { os::mmap(self.page(turn).cast(), BYTES, os::PROT_READ, kind | os::MAP_FIXED, file, 0) };
         if put as isize == -1 { Err(io::Error::last_os_error()) } else { Ok(()) }
     }
 
     /// Has this file read in place of the one before, which is unmapped. One thread at a time. Whether it could be mapped.
-    fn replace(&self, file: &File) -> bool {
+    fn replace(&self, opened: &Opened) -> bool {
         let turn = self.turn.load(Ordering::Relaxed);
-        let is_mapped = self.put(turn + 1, Some(file)).is_ok();
+        let is_mapped = self.put(turn + 1, Some(opened)).is_ok();
         if is_mapped {
             self.turn.store(turn + 1, Ordering::SeqCst);
             fence(Ordering::SeqCst);
@@ -424,7 +468,8 @@ impl Pages {
         let slot = slot_of(index);
         let word = std::array::from_fn(|place| load(slot + place));
         let again = load(INDEX_WORD);
-        (index, word, if self.turn.load(Ordering::Acquire) == turn { again } else { !index })
+        let clock = if self.is_raw[turn % 2].load(Ordering::Acquire) { Clock::MonotonicRaw } else { Clock::Monotonic };
+        (index, word, if self.turn.load(Ordering::Acquire) == turn { again } else { !index }, clock)
     }
 }
 
@@ -444,44 +489,44 @@ fn words_at<const COUNT: usize>(file: &File, place: usize) -> io::Result<[u64; C
     Ok(std::array::from_fn(|word| u64::from_le_bytes(std::array::from_fn(|byte| bytes[8 * word + byte]))))
 }
 
-fn copy(file: &File) -> io::Result<Copied> {
-    let [index] = words_at(file, INDEX_WORD)?;
-    let slot = words_at(file, slot_of(index))?;
-    let [again] = words_at(file, INDEX_WORD)?;
-    Ok((index, slot, again))
+fn copy(opened: &Opened) -> io::Result<Copied> {
+    let [index] = words_at(&opened.file, INDEX_WORD)?;
+    let slot = words_at(&opened.file, slot_of(index))?;
+    let [again] = words_at(&opened.file, INDEX_WORD)?;
+    Ok((index, slot, again, opened.clock))
 }
 
 /// The file at this path, where it is such a file.
-fn open_file(path: &Path, owner: u32) -> Result<(File, Metadata), Error> {
+fn open_file(path: &Path, owner: u32) -> Result<(Opened, Metadata), Error> {
     let opened = OpenOptions::new().read(true).custom_flags(os::O_NOFOLLOW | os::O_NONBLOCK).open(path);
     let file = opened.map_err(Error::NoFile)?;
     let found = file.metadata().map_err(Error::NoFile)?;
-    match fault_of(&file, &found, owner).map_err(Error::NoFile)? {
-        Some(fault) => Err(Error::OtherFile(fault)),
-        None => Ok((file, found)),
+    match clock_of(&file, &found, owner).map_err(Error::NoFile)? {
+        Err(fault) => Err(Error::OtherFile(fault)),
+        Ok(clock) => Ok((Opened { file, clock }, found)),
     }
 }
 
-/// Which of the checks an open file does not pass.
-fn fault_of(file: &File, found: &Metadata, owner: u32) -> io::Result<Option<FileFault>> {
+/// The clock of an open file, or which of the checks it does not pass.
+fn clock_of(file: &File, found: &Metadata, owner: u32) -> io::Result<Result<Clock, FileFault>> {
     if !found.is_file() || found.len() != BYTES as u64 {
-        return Ok(Some(FileFault::Kind));
+        return Ok(Err(FileFault::Kind));
     }
     if found.uid() != owner {
-        return Ok(Some(FileFault::Owner));
+        return Ok(Err(FileFault::Owner));
     }
     if found.mode() & 0o022 != 0 {
-        return Ok(Some(FileFault::Writable));
+        return Ok(Err(FileFault::Writable));
     }
     let words: [u64; FIRST_SLOT] = words_at(file, 0)?;
     let head: Vec<u8> = words.iter().flat_map(|word| word.to_le_bytes()).collect();
-    if words[..2] != HEAD || head[60..] != [0; 4] {
-        return Ok(Some(FileFault::Format));
-    }
-    Ok((!is_same_clock(&head[24..60])).then_some(FileFault::Clock))
+    let Some(clock) = Clock::of(words[1]).filter(|_| words[0] == HEAD && head[60..] == [0; 4]) else {
+        return Ok(Err(FileFault::Format));
+    };
+    Ok(if is_same_clock(&head[24..60]) { Ok(clock) } else { Err(FileFault::Clock) })
 }
 
-/// Whether `CLOCK_MONOTONIC` is here what it is to the daemon: the same boot, and no time namespace that shifts it.
+/// Whether both clocks are here what they are to the daemon: the same boot, and no time namespace that shifts them.
 fn is_same_clock(boot: &[u8]) -> bool {
     let is_same = fs::read("/proc/sys/kernel/random/boot_id").is_ok_and(|here| here.starts_with(boot));
     let is_shifted = match fs::read_to_string("/proc/self/timens_offsets") {

@@ -1,4 +1,5 @@
 //! What is needed of the C library, as Linux has it on little-endian machines of 64 bits.
+use crate::Clock;
 use std::ffi::{c_char, c_int, c_long, c_uint, c_ushort, c_void, CString};
 use std::io::{self, ErrorKind};
 use std::mem;
@@ -17,7 +18,6 @@ pub(crate) const MAP_FIXED: c_int = 0x10;
 pub(crate) const MAP_ANONYMOUS: c_int = if cfg!(target_arch = "mips64") { 0x800 } else { 0x20 };
 pub(crate) const O_NONBLOCK: c_int = 0o4000;
 pub(crate) const O_NOFOLLOW: c_int = if cfg!(target_arch = "aarch64") { 0o100_000 } else { 0o400_000 };
-const CLOCK_MONOTONIC: c_int = 1;
 const AF_UNIX: c_ushort = 1;
 const SOCK_STREAM: c_int = 1;
 const MSG_PEEK: c_int = 2;
@@ -61,12 +61,12 @@ extern "C" {
     fn connect(socket: c_int, address: *const SocketPath, length: c_uint) -> c_int;
 }
 
-/// The machine's clock in nanoseconds.
+/// A clock of the machine in nanoseconds.
 #[inline]
-pub(crate) fn clock_ns() -> Option<u64> {
+pub(crate) fn clock_ns(clock: Clock) -> Option<u64> {
     let mut now = Timespec { seconds: 0, nanoseconds: 0 };
     // SAFETY: the call writes one timespec.
-    let status = unsafe { clock_gettime(CLOCK_MONOTONIC, &mut now) };
+    let status = unsafe { clock_gettime(clock as c_int, &mut now) };
     let seconds = u64::try_from(now.seconds).ok().filter(|_| status == 0)?;
     // A clock past the greatest time shows one second more than that, which a reading refuses.
     Some(seconds.min(4_000_000_001) * 1_000_000_000 + now.nanoseconds as u64)

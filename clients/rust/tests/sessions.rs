@@ -10,7 +10,7 @@ use std::sync::{Arc, Mutex};
 use std::thread;
 use std::time::{Duration, Instant};
 use truetime::session::{Event, LONG_WAIT};
-use truetime::{Client, Error, FileFault, Pool, Refused, Session};
+use truetime::{Client, Clock, Error, FileFault, Pool, Refused, Session};
 
 const TIMEOUT: Duration = Duration::from_secs(10);
 
@@ -30,11 +30,30 @@ impl Room {
 
     /// A file in which nothing was published so far.
     fn file(&self) -> Vec<u8> {
-        let mut bytes = b"TTS2\x40\x01\0\0\x01\0\0\0\0\0\0\0".to_vec();
+        let mut bytes = b"TTS3\x40\x01\0\0\x04\0\0\0\0\0\0\0".to_vec();
         bytes.resize(24, 0);
         bytes.extend(&fs::read("/proc/sys/kernel/random/boot_id").expect("a boot")[..36]);
         bytes.resize(320, 0);
         bytes
+    }
+
+    /// A file by this clock, with one publication. Its words behind the index.
+    fn published(&self, clock: Clock, words: [u64; 15]) -> Vec<u8> {
+        let mut bytes = self.file();
+        bytes[8] = clock.number() as u8;
+        bytes[16] = 1;
+        bytes[192] = 1;
+        for (place, word) in words.into_iter().enumerate() {
+            bytes[200 + 8 * place..208 + 8 * place].copy_from_slice(&word.to_le_bytes());
+        }
+        bytes
+    }
+
+    /// Puts a file in place of the one at the path.
+    fn put(&self, bytes: &[u8]) {
+        fs::write(self.path("new"), bytes).expect("a file");
+        fs::set_permissions(self.path("new"), fs::Permissions::from_mode(0o644)).expect("a mode");
+        fs::rename(self.path("new"), self.path("time")).expect("it takes the place");
     }
 
     fn refusal(&self, bytes: &[u8], mode: u32, owner: u32) -> Error {
@@ -68,6 +87,9 @@ fn causes_of_files() {
         (good.clone(), 0o644, me + 1, FileFault::Owner),
         (good.clone(), 0o664, me, FileFault::Writable),
         ([b"TTS1", &good[4..]].concat(), 0o644, me, FileFault::Format),
+        ([b"TTS2", &good[4..]].concat(), 0o644, me, FileFault::Format),
+        ([&good[..8], b"\x07", &good[9..]].concat(), 0o644, me, FileFault::Format),
+        ([&good[..15], b"\x01", &good[16..]].concat(), 0o644, me, FileFault::Format),
         ([&good[..24], b"x", &good[25..]].concat(), 0o644, me, FileFault::Clock),
     ] {
         let error = room.refusal(&bytes, mode, owner);
@@ -77,6 +99,75 @@ fn causes_of_files() {
     let error = Client::open(room.path("none"), me).expect_err("there is no file");
     let cause = error.source().and_then(|cause| cause.downcast_ref::<io::Error>()).map(io::Error::kind);
     assert_eq!((error.number(), cause), (Some(1701), Some(ErrorKind::NotFound)));
+}
+
+#[repr(C)]
+struct Timespec {
+    seconds: i64,
+    nanoseconds: i64,
+}
+
+extern "C" {
+    fn clock_gettime(clock: i32, out: *mut Timespec) -> i32;
+}
+
+fn shown_by(clock: Clock) -> u64 {
+    let mut now = Timespec { seconds: 0, nanoseconds: 0 };
+    // SAFETY: the call writes one timespec.
+    assert_eq!(unsafe { clock_gettime(clock.number() as i32, &mut now) }, 0);
+    now.seconds as u64 * 1_000_000_000 + now.nanoseconds as u64
+}
+
+#[test]
+fn the_clock_is_that_of_the_file() {
+    const ALWAYS: u64 = u64::MAX;
+    let room = Room::new("clocks");
+    let me = fs::metadata(&room.0).expect("a folder").uid();
+    for is_mapped in [true, false] {
+        let open = |path| if is_mapped { Client::open(path, me) } else { Client::open_unmapped(path, me) };
+        let mut client = None;
+        for (epoch, clock) in (10..).zip([Clock::MonotonicRaw, Clock::Monotonic, Clock::MonotonicRaw, Clock::Monotonic]) {
+            // The reading is what the clock shows. By the second base it would be a second or more.
+            let first = [0, 0, 0, 0, epoch, 1, 0, ALWAYS];
+            let second = [0, 1_000_000_000_000_000, 1_000_000_000_000_000, 0, ALWAYS, ALWAYS, 0];
+            room.put(&room.published(clock, [&first[..], &second[..]].concat().try_into().expect("15 words")));
+            let client = client.get_or_insert_with(|| open(room.path("time")).expect("a client"));
+            if epoch > 10 {
+                thread::sleep(Duration::from_millis(1010)); // until it looks at the path again
+            }
+            let before = shown_by(clock);
+            let now = client.now().expect("a reading");
+            let after = shown_by(clock);
+            assert!((before..=after).contains(&now.earliest_ns), "{now:?} is not from {before} to {after}");
+            assert_eq!((now.latest_ns, now.epoch, now.fresh), (now.earliest_ns, epoch, false));
+            assert_eq!(client.read().expect("a publication").clock, clock);
+        }
+    }
+}
+
+#[test]
+fn what_no_daemon_writes() {
+    const MAX: u64 = truetime::MAX_TIME_NS;
+    let room = Room::new("slots");
+    let me = fs::metadata(&room.0).expect("a folder").uid();
+    let good = [1000, 5, 15, 6000, 7, 1, 200, 7000, 500_000, 7000, 8000, 1400, 600_000, 700_000, 0];
+    let changed = |place, word| {
+        let mut words: [u64; 15] = good;
+        words[place] = word;
+        room.put(&room.published(Clock::MonotonicRaw, words));
+        let read = Client::open(room.path("time"), me).expect("a client").read();
+        assert_eq!(Client::open_unmapped(room.path("time"), me).expect("a client").read().ok(), read.as_ref().ok().copied());
+        read.map_err(|error| error.refused().expect("a refusal"))
+    };
+    for (place, word) in [(8, MAX), (10, MAX), (11, 100_000), (12, 0), (12, u64::MAX), (13, 0), (13, u64::MAX)] {
+        let read = changed(place, word).expect("a publication");
+        assert_eq!((read.clock, read.clock_ns, read.lo_ns, read.hi_ns, read.drift_ppm), (Clock::MonotonicRaw, 1000, 5, 15, 200));
+        assert_eq!((read.valid_until_ns, read.usable_until_ns, read.epoch, read.number), (6000, 7000, 7, 1));
+    }
+    for (place, word) in [(0, MAX + 1), (1, 16), (2, MAX + 1), (6, 100_001), (8, MAX + 1), (9, 8001), (10, MAX + 1), (11, 100_001), (14, 1)] {
+        assert_eq!(changed(place, word), Err(Refused::NoSlot), "{place} {word}");
+    }
+    assert_eq!(changed(7, 0), Err(Refused::Nothing));
 }
 
 #[test]

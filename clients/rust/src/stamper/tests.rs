@@ -1,5 +1,6 @@
 //! The rule by values worked out by hand, and stampers over files that the tests write.
 use super::*;
+use crate::Clock;
 use std::fs;
 use std::os::unix::fs::{FileExt, MetadataExt};
 use std::path::{Path, PathBuf};
@@ -10,6 +11,8 @@ const MAX: u64 = MAX_TIME_NS;
 /// Far above the readings of these tests, so the stamps do not depend on the clock.
 const LO: u64 = 500_000_000_000_000_000;
 const NO_LIMIT: u64 = u64::MAX;
+/// The clock of the files here.
+const CLOCK: Clock = Clock::MonotonicRaw;
 
 /// A file with publications, in a folder of its own.
 struct Shared {
@@ -23,8 +26,8 @@ impl Shared {
         fs::create_dir_all(&folder).expect("a folder");
         let shared = Shared { folder };
         let mut bytes = vec![0; crate::BYTES];
-        bytes[..8].copy_from_slice(&crate::HEAD[0].to_le_bytes());
-        bytes[8..16].copy_from_slice(&crate::HEAD[1].to_le_bytes());
+        bytes[..8].copy_from_slice(&crate::HEAD.to_le_bytes());
+        bytes[8] = CLOCK.number() as u8;
         bytes[24..60].copy_from_slice(&fs::read("/proc/sys/kernel/random/boot_id").expect("a boot")[..36]);
         fs::write(shared.path(), bytes).expect("a file");
         shared
@@ -43,7 +46,7 @@ impl Shared {
 
     /// Publishes as the daemon does: the slot, and then the index. `count` is 1 or 2.
     fn publish(&self, count: u64, lo_ns: u64, hi_ns: u64, usable_until_ns: u64) {
-        let clock_ns = crate::os::clock_ns().expect("a clock");
+        let clock_ns = crate::os::clock_ns(CLOCK).expect("a clock");
         let words = [count, clock_ns, lo_ns, hi_ns, clock_ns, 70 + count, 9, 0, usable_until_ns];
         let bytes: Vec<u8> = words.iter().flat_map(|word| word.to_le_bytes()).collect();
         let file = fs::OpenOptions::new().write(true).open(self.path()).expect("the file");

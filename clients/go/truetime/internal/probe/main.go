@@ -73,14 +73,30 @@ func tryFiles(lines *bufio.Scanner) {
 	var client *truetime.Client
 	var err error = truetime.NoFile
 	for lines.Scan() {
-		if name, path, _ := strings.Cut(lines.Text(), " "); name == "open" {
+		name, path, _ := strings.Cut(lines.Text(), " ")
+		if name == "at" {
+			fmt.Println(readAt(client, numbers(path)[0]))
+			continue
+		}
+		if open := map[string]func(string, string) (*truetime.Client, error){"open": truetime.OpenUnmapped, "map": truetime.Open}[name]; open != nil {
 			if client != nil {
 				client.Close()
 			}
-			client, err = truetime.OpenUnmapped(path, strconv.Itoa(os.Geteuid()))
+			client, err = open(path, strconv.Itoa(os.Geteuid()))
 		}
 		fmt.Println(published(client, err))
 	}
+}
+
+// readAt says the reading of a file where CLOCK_MONOTONIC, whose number is 1, shows this.
+func readAt(client *truetime.Client, clock uint64) string {
+	p, err := client.Read()
+	var now truetime.Reading
+	if err == nil {
+		now, err = p.At(clock)
+	}
+	fresh := map[bool]string{true: "fresh", false: "stale"}[now.Fresh]
+	return said(fmt.Sprintln(1, now.Earliest, now.Latest, now.Epoch, now.Number, fresh), err)
 }
 
 func trySessions(lines *bufio.Scanner) {

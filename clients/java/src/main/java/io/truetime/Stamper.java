@@ -160,14 +160,14 @@ public final class Stamper {
      * reading before the first sleep and after each, also once the time-out is over, and sleeps as long as the stamp is ahead
      * of the earliest, at most 50 milliseconds at once.
      *
-     * <p>Refuses as {@link TrueTime#now}, at once. The stamp is as it was after that, after false and after an interrupt: wait
-     * again.
+     * <p>Refuses as {@link TrueTime#now}, at once, but for 1710: that passes with a round of the daemon, so it sleeps and looks again.
+     * The stamp is as it was after that, after false and after an interrupt: wait again.
      */
     public boolean awaitPast(long stampNs, Duration timeout) throws InterruptedException {
         long began = System.nanoTime();
         long limit = Math.max(TimeUnit.NANOSECONDS.convert(timeout), 0);
         while (true) {
-            long sleep = leftNs(stampNs);
+            long sleep = sleepNs(stampNs);
             if (sleep == 0) {
                 return true;
             }
@@ -179,6 +179,18 @@ public final class Stamper {
                 throw new InterruptedException();
             }
             LockSupport.parkNanos(this, Math.min(sleep, left));
+        }
+    }
+
+    /** How long to sleep before the next look: where that is refused with 1710 the longest sleep. */
+    private long sleepNs(long stampNs) {
+        try {
+            return leftNs(stampNs);
+        } catch (TrueTime.Refused refused) {
+            if (refused.number() != TrueTime.Refused.NO_SLEWED) {
+                throw refused;
+            }
+            return LONGEST_SLEEP_NS;
         }
     }
 

@@ -39,9 +39,12 @@ import java.util.concurrent.atomic.AtomicReference;
  * <p>A call that would refuse, or give a reading that is not fresh, looks at the path, at most once a second. Where another
  * file is there, as behind a restart, the client opens that by the same rules, and answers by it.
  *
- * <p>Reads version 2 of the format (its first four bytes are TTS2), and refuses a file of version 1 with 1702. Needs Linux
- * on a little-endian 64-bit machine and Java 17 or later. A mapping goes with the collector. {@link System#nanoTime} has to show
- * CLOCK_MONOTONIC, as it does in OpenJDK on Linux.
+ * <p>The clock is CLOCK_MONOTONIC: {@link System#nanoTime} has to show it, as it does in OpenJDK on Linux. Where the clock of the
+ * file is CLOCK_MONOTONIC_RAW, which Java does not show, the file also has the time by CLOCK_MONOTONIC: 1710 is the refusal while it
+ * has not.
+ *
+ * <p>Reads version 3 of the format (its first four bytes are TTS3), and refuses another version with 1702. Needs Linux
+ * on a little-endian 64-bit machine and Java 17 or later. A mapping goes with the collector.
  */
 public final class TrueTime implements AutoCloseable {
     /** The greatest time and the greatest clock reading, in nanoseconds. */
@@ -53,10 +56,12 @@ public final class TrueTime implements AutoCloseable {
     private static final int INDEX_AT = 16;
     private static final int FIRST_SLOT_AT = 64;
     private static final int SLOT_BYTES = 128;
-    private static final int USED_BYTES = 72;
     private static final int TRIES = 1000;
     private static final long LOOK_NS = 1_000_000_000;
-    private static final long MAGIC_AND_LENGTH = 0x0000_0140_3253_5454L;
+    private static final long MAGIC_AND_LENGTH = 0x0000_0140_3353_5454L;
+    /** The clocks that a file may have, by their numbers in Linux. */
+    private static final long CLOCK_MONOTONIC = 1;
+    private static final long CLOCK_MONOTONIC_RAW = 4;
     private static final long LOWEST_BITS = 0x0101_0101_0101_0101L;
     private static final VarHandle WORD = MethodHandles.byteBufferViewVarHandle(long[].class, ByteOrder.LITTLE_ENDIAN);
     private static final Map<Integer, String> MEANINGS = Map.ofEntries(
@@ -81,6 +86,7 @@ public final class TrueTime implements AutoCloseable {
         Map.entry(1703, "no daemon wrote what stands there"),
         Map.entry(1704, "another publication came during each of the tries"),
         Map.entry(1708, "the clock is past the last reading at which the publication may be used"),
+        Map.entry(1710, "the file gives nothing by CLOCK_MONOTONIC"),
         Map.entry(1821, "the floor, or the lower end of the lease, is further ahead than the machine allows"),
         Map.entry(1822, "the commit is pending no more: its connection broke, or the machine ends"),
         Map.entry(1823, "the machine knows that an assumption of the service is broken"),
@@ -95,8 +101,11 @@ public final class TrueTime implements AutoCloseable {
     /** The clock reading from which on the path may be looked at again. */
     private final AtomicLong nextLookNs = new AtomicLong(Long.MIN_VALUE);
 
-    /** A file that is open, and its identity. The buffer is null where it is not mapped, or else the channel. */
-    private record Opened(ByteBuffer mapped, FileChannel file, Object key) {
+    /**
+     * A file that is open, its identity, and whether its clock is CLOCK_MONOTONIC_RAW. The buffer is null where it is not mapped, or
+     * else the channel.
+     */
+    private record Opened(ByteBuffer mapped, FileChannel file, Object key, boolean isRaw) {
         /** Whether the interrupt of a thread that read it has closed it. */
         boolean isGone() {
             return file != null && !file.isOpen();
@@ -164,6 +173,8 @@ public final class TrueTime implements AutoCloseable {
         public static final int BUSY = 1704;
         /** The clock is past the last reading at which the publication may be used. */
         public static final int TOO_WIDE = 1708;
+        /** The file gives nothing by CLOCK_MONOTONIC, until the daemon's next round, or longer. */
+        public static final int NO_SLEWED = 1710;
         /** The floor, or the lower end of the lease, is further ahead than the machine allows. */
         public static final int FLOOR_ABOVE_CAP = 1821;
         /** The commit is pending no more: its connection broke, or the machine ends. */
@@ -217,8 +228,8 @@ public final class TrueTime implements AutoCloseable {
     }
 
     /**
-     * What the daemon published; epoch, number, validUntilNs and usableUntilNs are unsigned. The last one is the last clock
-     * reading at which it may be used; -1 (2^64 - 1): there is no limit; 0: nothing is published any more.
+     * What the daemon published, by CLOCK_MONOTONIC; epoch, number, validUntilNs and usableUntilNs are unsigned. The last one is the
+     * last clock reading at which it may be used; -1 (2^64 - 1): there is no limit; 0: nothing is published any more.
      */
     public record Publication(
             long clockNs, long loNs, long hiNs, long validUntilNs, long usableUntilNs, long epoch, long number, long driftPpm) {
@@ -253,13 +264,17 @@ public final class TrueTime implements AutoCloseable {
         }
 
         private boolean isInRange() {
-            return isTime(clockNs) && isTime(loNs) && isTime(hiNs) && loNs <= hiNs
-                && driftPpm >= 0 && driftPpm <= MAX_DRIFT_PPM;
+            return isBase(clockNs, loNs, hiNs, driftPpm);
         }
+    }
 
-        private static boolean isTime(long ns) {
-            return ns >= 0 && ns <= MAX_TIME_NS;
-        }
+    /** Whether these may be the clock, the span and the drift of a base. */
+    private static boolean isBase(long clockNs, long loNs, long hiNs, long driftPpm) {
+        return isTime(clockNs) && isTime(loNs) && isTime(hiNs) && loNs <= hiNs && driftPpm >= 0 && driftPpm <= MAX_DRIFT_PPM;
+    }
+
+    private static boolean isTime(long ns) {
+        return ns >= 0 && ns <= MAX_TIME_NS;
     }
 
     /** Maps the file at this path, which this user has to own: a name or a number. Refuses with 1701 and 1702. */
@@ -312,8 +327,8 @@ public final class TrueTime implements AutoCloseable {
     }
 
     /**
-     * The last publication. Refuses with 801, 1704 and 1703, then with 801 where nothing is published any more, and with 1701
-     * where it is not mapped and has become shorter, or the client is closed.
+     * The last publication, by CLOCK_MONOTONIC. Refuses with 801, 1704 and 1703, then with 801 where nothing is published any more and
+     * 1710 where that is not by CLOCK_MONOTONIC, and with 1701 where it is not mapped and has become shorter, or the client is closed.
      */
     public Publication read() {
         Opened of = opened();
@@ -406,19 +421,23 @@ public final class TrueTime implements AutoCloseable {
     private static Publication readOf(Opened of) {
         ByteBuffer mapped = of.mapped();
         FileChannel file = of.file();
+        boolean isRaw = of.isRaw();
         for (int tries = 0; tries < TRIES; tries++) {
             long index = index(mapped, file);
             // The publication's count is odd where an odd number of the eight bytes of the index are odd.
             int at = FIRST_SLOT_AT + SLOT_BYTES * (Long.bitCount(index & LOWEST_BITS) & 1);
             ByteBuffer bytes = mapped == null ? bytesAt(file, at, SLOT_BYTES) : mapped;
             int slot = mapped == null ? 0 : at;
+            // The first base, or the second one where the clock of the file is the raw one. Both are judged, whichever is read.
+            int base = slot + (isRaw ? 72 : 8);
+            int other = slot + (isRaw ? 8 : 72);
             long echo = word(bytes, slot);
-            Publication published = new Publication(word(bytes, slot + 8), word(bytes, slot + 16), word(bytes, slot + 24),
-                word(bytes, slot + 32), word(bytes, slot + 64), word(bytes, slot + 40), word(bytes, slot + 48), word(bytes, slot + 56));
-            long behind = 0; // zeros fill the slot
-            for (int place = USED_BYTES; place < SLOT_BYTES; place += Long.BYTES) {
-                behind |= word(bytes, slot + place);
-            }
+            Publication published = new Publication(word(bytes, base), word(bytes, base + 8), word(bytes, base + 16),
+                word(bytes, slot + (isRaw ? 104 : 32)), word(bytes, slot + (isRaw ? 112 : 64)),
+                word(bytes, slot + 40), word(bytes, slot + 48), word(bytes, slot + (isRaw ? 96 : 56)));
+            boolean isOther = isBase(word(bytes, other), word(bytes, other + 8), word(bytes, other + 16), word(bytes, slot + (isRaw ? 56 : 96)));
+            long usable = word(bytes, slot + 64);
+            long zero = word(bytes, slot + 120);
             // The slot was read behind the index, and before the index again.
             VarHandle.acquireFence();
             if (index(mapped, file) != index) {
@@ -427,11 +446,14 @@ public final class TrueTime implements AutoCloseable {
             if (index == 0) {
                 throw new Refused(801);
             }
-            if (echo != index || !published.isInRange() || behind != 0) {
+            if (echo != index || zero != 0 || !published.isInRange() || !isOther) {
                 throw new Refused(1703);
             }
-            if (published.usableUntilNs() == 0) {
+            if (usable == 0) {
                 throw new Refused(801);
+            }
+            if (published.usableUntilNs() == 0) {
+                throw new Refused(1710);
             }
             return published;
         }
@@ -480,10 +502,10 @@ public final class TrueTime implements AutoCloseable {
         FileChannel file = FileChannel.open(path, StandardOpenOption.READ, LinkOption.NOFOLLOW_LINKS);
         boolean isKept = false;
         try {
-            checkHead(bytesAt(file, 0, FIRST_SLOT_AT));
+            boolean isRaw = clockOf(bytesAt(file, 0, FIRST_SLOT_AT)) == CLOCK_MONOTONIC_RAW;
             isKept = !isMapped;
             ByteBuffer mapped = isMapped ? file.map(FileChannel.MapMode.READ_ONLY, 0, BYTES) : null;
-            return new Opened(mapped, isMapped ? null : file, found.fileKey());
+            return new Opened(mapped, isMapped ? null : file, found.fileKey(), isRaw);
         } finally {
             if (!isKept) {
                 file.close();
@@ -491,19 +513,22 @@ public final class TrueTime implements AutoCloseable {
         }
     }
 
-    private static void checkHead(ByteBuffer head) throws IOException {
+    /** The clock of a file with this head, where it is such a file. */
+    private static long clockOf(ByteBuffer head) throws IOException {
         byte[] boot = new byte[36];
         head.get(24, boot);
-        boolean isFormat = head.getLong(0) == MAGIC_AND_LENGTH && head.getLong(8) == 1 && head.getInt(60) == 0;
-        if (!isFormat) {
+        long clock = head.getLong(8);
+        boolean isClock = clock == CLOCK_MONOTONIC || clock == CLOCK_MONOTONIC_RAW;
+        if (head.getLong(0) != MAGIC_AND_LENGTH || !isClock || head.getInt(60) != 0) {
             throw new Refused(Refused.OTHER_FILE, ": it is of another format, or of another version");
         }
         if (!isSameClock(boot)) {
             throw new Refused(Refused.OTHER_FILE, ": it is of another boot, or of another clock");
         }
+        return clock;
     }
 
-    /** Whether CLOCK_MONOTONIC is here what it is to the daemon: the same boot, and no time namespace that shifts it. */
+    /** Whether both clocks are here what they are to the daemon: the same boot, and no time namespace that shifts them. */
     private static boolean isSameClock(byte[] boot) throws IOException {
         byte[] here = Files.readString(Path.of("/proc/sys/kernel/random/boot_id")).strip().getBytes(StandardCharsets.US_ASCII);
         if (!Arrays.equals(here, boot)) {

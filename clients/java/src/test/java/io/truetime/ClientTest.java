@@ -20,6 +20,7 @@ import java.nio.charset.StandardCharsets;
 import java.nio.file.Files;
 import java.nio.file.NoSuchFileException;
 import java.nio.file.Path;
+import java.nio.file.StandardCopyOption;
 import java.nio.file.attribute.PosixFilePermissions;
 import java.time.Duration;
 import java.util.ArrayList;
@@ -61,7 +62,7 @@ public final class ClientTest {
 
     private static byte[] file() throws IOException {
         ByteBuffer bytes = ByteBuffer.allocate(320).order(ByteOrder.LITTLE_ENDIAN);
-        bytes.putLong(0, 0x0000_0140_3253_5454L).putLong(8, 1);
+        bytes.putLong(0, 0x0000_0140_3353_5454L).putLong(8, 4);
         byte[] boot = Files.readString(Path.of("/proc/sys/kernel/random/boot_id")).getBytes(StandardCharsets.US_ASCII);
         return bytes.put(24, boot, 0, 36).array();
     }
@@ -83,12 +84,18 @@ public final class ClientTest {
         String readable = "rw-r--r--";
         byte[] other = file();
         other[3] = '1';
+        byte[] version2 = file();
+        version2[3] = '2';
+        byte[] clock = file();
+        clock[8] = 7;
         byte[] boot = file();
         boot[24] ^= 1;
         refuses(path, Arrays.copyOf(file(), 319), readable, me, "it is no file of 320 bytes");
         refuses(path, file(), readable, "no-such-user", "its owner is " + me + ", not no-such-user");
         refuses(path, file(), "rw-rw-r--", me, "others may write to it");
-        refuses(path, other, readable, me, "it is of another format, or of another version");
+        for (byte[] bytes : new byte[][] {other, version2, clock}) {
+            refuses(path, bytes, readable, me, "it is of another format, or of another version");
+        }
         refuses(path, boot, readable, me, "it is of another boot, or of another clock");
         Exception failed = thrown(() -> TrueTime.open(room.resolve("none"), me));
         check(failed instanceof TrueTime.Refused refused && refused.number() == TrueTime.Refused.NO_FILE
@@ -107,13 +114,100 @@ public final class ClientTest {
 
     /** A file of one publication. */
     private static byte[] published() throws IOException {
-        long[] words = {1, 0, 5, 15, -1, 7, 1, 0, -1};
+        return published(4, 1, 0, 5, 15, -1, 7, 1, 0, -1, 0, 5, 15, 0, -1, -1, 0);
+    }
+
+    /** A file by this clock, with this slot. */
+    private static byte[] published(long clock, long... words) throws IOException {
         ByteBuffer bytes = ByteBuffer.wrap(file()).order(ByteOrder.LITTLE_ENDIAN);
-        bytes.putLong(16, 1);
+        bytes.putLong(8, clock).putLong(16, 1);
         for (int place = 0; place < words.length; place++) {
             bytes.putLong(192 + 8 * place, words[place]);
         }
         return bytes.array();
+    }
+
+    /** What a file gives where CLOCK_MONOTONIC shows this. */
+    private static String readAt(TrueTime client, long nowNs) {
+        try (client) {
+            TrueTime.Reading now = client.read().readAt(nowNs);
+            return now.earliestNs() + " " + now.latestNs() + (now.fresh() ? " fresh" : " stale");
+        } catch (TrueTime.Refused refused) {
+            return "refused " + refused.number();
+        }
+    }
+
+    /** Reads a slot with one word in place of another where CLOCK_MONOTONIC shows this. */
+    private static void reads(Path path, long clock, int place, long word, long nowNs, String wanted) throws IOException {
+        long[] words = {1, 1_000, 5, 15, 6_000, 7, 9, 200, 7_000, 500_000, 2_000, 3_000, 1_000, 510_000, 520_000, 0};
+        words[place] = word;
+        Files.write(path, published(clock, words));
+        String me = Files.getOwner(path).getName();
+        String came = readAt(TrueTime.open(path, me), nowNs);
+        check(came.equals(wanted) && readAt(TrueTime.openUnmapped(path, me), nowNs).equals(wanted), clock, place, word, nowNs, came, wanted);
+    }
+
+    /** Slots by hand: the first base where the clock of the file is CLOCK_MONOTONIC, and else the second one. */
+    private static void slots(Path room) throws IOException {
+        final long max = TrueTime.MAX_TIME_NS;
+        Path path = room.resolve("time");
+        reads(path, 1, 0, 1, 1_000, "5 15 fresh");
+        reads(path, 1, 0, 1, 6_000, "5004 5016 fresh");
+        reads(path, 1, 0, 1, 6_001, "5004 5018 stale");
+        reads(path, 1, 0, 1, 7_000, "6003 6017 stale");
+        reads(path, 1, 0, 1, 7_001, "refused 1708");
+        reads(path, 1, 0, 1, 999, "refused 802");
+        reads(path, 1, 14, 0, 1_000, "5 15 fresh");
+        reads(path, 4, 0, 1, 500_000, "2000 3000 fresh");
+        reads(path, 4, 0, 1, 510_000, "11990 13010 fresh");
+        reads(path, 4, 0, 1, 510_001, "11990 13012 stale");
+        reads(path, 4, 0, 1, 520_000, "21980 23020 stale");
+        reads(path, 4, 0, 1, 520_001, "refused 1708");
+        reads(path, 4, 0, 1, 499_999, "refused 802");
+        reads(path, 4, 14, -1, max + 1, "refused 802");
+        reads(path, 4, 14, 0, 499_999, "refused 1710");
+        reads(path, 4, 14, 0, max + 1, "refused 1710");
+        reads(path, 4, 8, 0, 500_000, "refused 801");
+        for (long clock : new long[] {1, 4}) {
+            reads(path, clock, 0, 2, 500_000, "refused 1703");
+            reads(path, clock, 1, max + 1, 500_000, "refused 1703");
+            reads(path, clock, 2, 16, 500_000, "refused 1703");
+            reads(path, clock, 3, max + 1, 500_000, "refused 1703");
+            reads(path, clock, 7, 100_001, 500_000, "refused 1703");
+            reads(path, clock, 9, max + 1, 500_000, "refused 1703");
+            reads(path, clock, 9, -1, 500_000, "refused 1703");
+            reads(path, clock, 10, 3_001, 500_000, "refused 1703");
+            reads(path, clock, 11, max + 1, 500_000, "refused 1703");
+            reads(path, clock, 12, 100_001, 500_000, "refused 1703");
+            reads(path, clock, 15, 1, 500_000, "refused 1703");
+        }
+    }
+
+    /** Each file is read by CLOCK_MONOTONIC, also one that takes the place of one by the other clock. */
+    private static void clocksOfFiles(Path room) throws Exception {
+        Path path = room.resolve("time");
+        for (boolean isMapped : new boolean[] {true, false}) {
+            TrueTime client = null;
+            for (int turn = 0; turn < 3; turn++) {
+                // The reading is what the clock shows. By the other base it would be of the greatest time.
+                long[] by = {0, 0, 0}, other = {0, TrueTime.MAX_TIME_NS, TrueTime.MAX_TIME_NS};
+                boolean isRaw = turn % 2 == 0;
+                long[] first = isRaw ? other : by, second = isRaw ? by : other;
+                Files.write(room.resolve("new"), published(isRaw ? 4 : 1, 1, first[0], first[1], first[2], 0, turn, 1, 0, -1,
+                    second[0], second[1], second[2], 0, 0, -1, 0));
+                Files.move(room.resolve("new"), path, StandardCopyOption.REPLACE_EXISTING);
+                String me = Files.getOwner(path).getName();
+                if (client == null) {
+                    client = isMapped ? TrueTime.open(path, me) : TrueTime.openUnmapped(path, me);
+                } else {
+                    Thread.sleep(1010); // until it looks at the path again
+                }
+                long before = System.nanoTime();
+                TrueTime.Reading now = client.now();
+                check(before <= now.earliestNs() && now.latestNs() <= System.nanoTime() && now.epoch() == turn, turn, isMapped, before, now);
+            }
+            client.close();
+        }
     }
 
     /** An interrupt closes a file that is not mapped; it is read all the same once the interrupt is over, also beside another reader. */
@@ -359,6 +453,8 @@ public final class ClientTest {
     public static void main(String[] words) throws Exception {
         Path room = Files.createTempDirectory("truetime");
         causesOfFiles(room);
+        slots(room);
+        clocksOfFiles(room);
         interruptedReaders(room);
         longTimeouts(room);
         negativeTimes();

@@ -66,6 +66,17 @@ public final class Probe {
         }
     }
 
+    /** The reading of a file where CLOCK_MONOTONIC, whose number is 1, shows this. */
+    private static String readAt(TrueTime client, long nowNs) {
+        try {
+            TrueTime.Reading now = client.read().readAt(nowNs);
+            return "1 " + now.earliestNs() + " " + now.latestNs() + " " + Long.toUnsignedString(now.epoch()) + " "
+                + Long.toUnsignedString(now.number()) + (now.fresh() ? " fresh" : " stale");
+        } catch (TrueTime.Refused refused) {
+            return "refused " + refused.number();
+        }
+    }
+
     private static void tryFiles(BufferedReader lines) throws IOException {
         String user = System.getProperty("user.name");
         TrueTime[] client = new TrueTime[1];
@@ -73,6 +84,11 @@ public final class Probe {
             if (line.startsWith("open ")) {
                 Path path = Path.of(line.substring(5));
                 System.out.println(published(() -> client[0] = TrueTime.openUnmapped(path, user)));
+            } else if (line.startsWith("map ")) {
+                Path path = Path.of(line.substring(4));
+                System.out.println(published(() -> client[0] = TrueTime.open(path, user)));
+            } else if (line.startsWith("at ")) {
+                System.out.println(readAt(client[0], numbers(line.split(" "), 1)[0]));
             } else {
                 System.out.println(published(() -> client[0]));
             }

@@ -41,10 +41,10 @@ public final class StamperTest {
         private final Path folder = Files.createTempDirectory("truetime");
         private final Path path = folder.resolve("time");
 
-        /** One in which nothing was published. */
+        /** One in which nothing was published. Its clock is CLOCK_MONOTONIC_RAW. */
         Shared() throws IOException {
             ByteBuffer bytes = ByteBuffer.allocate(320).order(ByteOrder.LITTLE_ENDIAN);
-            bytes.putLong(0, 0x0000_0140_3253_5454L).putLong(8, 1);
+            bytes.putLong(0, 0x0000_0140_3353_5454L).putLong(8, 4);
             byte[] boot = Files.readString(Path.of("/proc/sys/kernel/random/boot_id")).getBytes(StandardCharsets.US_ASCII);
             bytes.put(24, boot, 0, 36);
             Files.write(path, bytes.array());
@@ -58,9 +58,14 @@ public final class StamperTest {
 
         /** Publishes as the daemon does: the slot, and then the index. The count is 1 or 2. */
         void publish(long count, long loNs, long hiNs, long usableUntilNs) throws IOException {
+            publish(count, loNs, hiNs, usableUntilNs, -1);
+        }
+
+        /** The same, where the publication by the raw clock, of which nothing is told, may be used until a reading of that. */
+        void publish(long count, long loNs, long hiNs, long usableUntilNs, long rawUntilNs) throws IOException {
             long clock = System.nanoTime();
-            ByteBuffer slot = ByteBuffer.allocate(72).order(ByteOrder.LITTLE_ENDIAN);
-            for (long word : new long[] {count, clock, loNs, hiNs, clock, 70 + count, 9, 0, usableUntilNs}) {
+            ByteBuffer slot = ByteBuffer.allocate(128).order(ByteOrder.LITTLE_ENDIAN);
+            for (long word : new long[] {count, MAX, 1, 2, 3, 70 + count, 9, 100_000, rawUntilNs, clock, loNs, hiNs, 0, clock, usableUntilNs, 0}) {
                 slot.putLong(word);
             }
             // Byte 0 of the index is the count's less byte 1 of that, which is 0.
@@ -243,9 +248,11 @@ public final class StamperTest {
             refuses(801, stamper);
             shared.publish(1, 1_000, 2_000, 1);
             refuses(1708, stamper);
-            shared.publish(2, 1_000, 2_000, 0);
+            shared.publish(2, 1_000, 2_000, 1, 0);
             refuses(801, stamper);
             shared.publish(1, 2_000, 1_000, NO_LIMIT);
+            refuses(1703, stamper);
+            shared.publish(2, 2_000, 1_000, 0, 0);
             refuses(1703, stamper);
             shared.publish(2, 1_000, 2_000, NO_LIMIT);
             stamps(LO, stamper, 0);
@@ -311,6 +318,28 @@ public final class StamperTest {
             shared.publish(2, LO + 1, LO + 1, NO_LIMIT);
             check(waiting.get());
             check(System.nanoTime() - began < 30_000_000_000L);
+        }
+    }
+
+    /** Nothing is published by CLOCK_MONOTONIC for a while: stamps and looks are refused, and a wait lasts until something is again. */
+    private static void waitsForSecondBase() throws Exception {
+        try (Shared shared = new Shared(1_000_000_000, 1_000_000_000); TrueTime client = shared.client()) {
+            Stamper stamper = new Stamper(client);
+            long stampNs = stamper.stamp(0).stampNs();
+            shared.publish(2, 2_000_000_000, 2_000_000_000, 0);
+            stamps(-1710, stamper, 0);
+            equal(-1710, () -> stamper.isPast(stampNs) ? 1L : 0L);
+            equal(-1710, () -> stamper.leftNs(stampNs));
+            long began = System.nanoTime();
+            check(!stamper.awaitPast(stampNs, Duration.ofMillis(10)));
+            check(System.nanoTime() - began >= 10_000_000);
+            ExecutorService pool = Executors.newFixedThreadPool(1);
+            Future<Boolean> waiting = pool.submit(() -> stamper.awaitPast(stampNs, Duration.ofSeconds(60)));
+            pool.shutdown();
+            Thread.sleep(80);
+            check(!waiting.isDone());
+            shared.publish(1, 3_000_000_000L, 3_000_000_000L, NO_LIMIT);
+            check(waiting.get());
         }
     }
 
@@ -426,6 +455,7 @@ public final class StamperTest {
         waits();
         waitsNoLonger();
         waitsForPublication();
+        waitsForSecondBase();
         threadsGetLeastStamps();
         threadsUseUpLease();
         System.out.println("passed: " + CHECKS + " checks");
