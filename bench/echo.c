@@ -39,7 +39,7 @@ static size_t answer(const char *bytes, size_t count, char *replies) {
     for (size_t at = 0; at < count; at++) {
         if (bytes[at] != '\n') continue;
         struct timespec now = {0};
-        clock_gettime(CLOCK_MONOTONIC, &now);
+        clock_gettime(CLOCK_MONOTONIC_RAW, &now);
         uint64_t earliest = 1700000000000000000 + (uint64_t)now.tv_sec * 1000000000 + (uint64_t)now.tv_nsec;
         memcpy(end, "now ", 4);
         end = put(end + 4, earliest);

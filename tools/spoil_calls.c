@@ -1,18 +1,20 @@
 /* Spoils calls of the program that it is loaded into, each kind for as long as a file of its name is in the folder that SPOIL names:
- * the monotonic clock shows ten seconds less (`clock`), no packet is received (`receive`), none is sent to port N (`send-N`), sending
- * one lasts until the file is gone (`sending`), and so do a rename (`rename`), a write at a place of a file (`writing`), a look for the
- * addresses of a name (`lookup`) and a look at the real-time clock (`telling`); a connection takes seven bytes at a time (`few`); there are
- * no random bytes (`random`), no IPv6 (`six`) and no memory (`memory`); a sleep lasts a hundredth of its time (`hasty`). No change of what
+ * the clocks show ten seconds less (`clock`), no packet is received (`receive`), none is sent to port N (`send-N`), sending one lasts
+ * until the file is gone (`sending`), and so do a rename (`rename`), a write at a place of a file (`writing`), a look for the addresses
+ * of a name (`lookup`) and a look at the real-time clock (`telling`); a connection takes seven bytes at a time (`few`); there are no
+ * random bytes (`random`), no IPv6 (`six`) and no memory (`memory`); a sleep lasts a hundredth of its time (`hasty`). No change of what
  * is waited for is taken (`watch`), and none of that is waited for (`events`). Each look for addresses adds a byte to the file `lookups`,
- * if it is there, and finds those that the file `addresses` has, if that is there; each reading of the monotonic clock adds one to
+ * if it is there, and finds those that the file `addresses` has, if that is there; each reading of the machine's clock adds one to
  * `readings`. It stands before the C library by LD_PRELOAD.
  *
- * Others say in their file what is shown. `course` has lines FROM SHOWN RATE, in nanoseconds and parts per million: once the monotonic
- * clock shows FROM it shows SHOWN, and runs by RATE faster; so it stands still by a RATE of -1000000. /proc/uptime goes with that clock, as
- * in a guest that is paused, and shows besides as many nanoseconds more as `uptime` says, as after a suspend; it cannot be read by
- * `no-uptime`. `timens` is what stands in /proc/self/timens_offsets, which is not there by `no-timens`. `unread` has a sign for each
- * reading of the monotonic clock from when it is there: that of an x fails, and behind its end the last sign counts. `date` has the
- * nanoseconds since 1970 that the real-time clock shows. All programs that have the same folder see the same clock. */
+ * Others say in their file what is shown. `course` has lines FROM SHOWN RATE, in nanoseconds and parts per million: once
+ * CLOCK_MONOTONIC_RAW shows FROM it shows SHOWN, and runs by RATE faster; so it stands still by a RATE of -1000000. CLOCK_MONOTONIC turns
+ * alike, at the same moment and by as much; `slew` has such lines for it alone. CLOCK_BOOTTIME shows what that shows, as if the host had
+ * never slept, and as many nanoseconds more as `boot` says; it cannot be read by `no-boot`. `timens` is what stands in
+ * /proc/self/timens_offsets, which is not there by `no-timens`. `unread` has a sign for each reading of the machine's clock from when it
+ * is there: that of an x fails, and behind its end the last sign counts. `date` has the nanoseconds since 1970 that the real-time clock
+ * shows. All programs that have the same folder see the same clocks. A program's clock as a machine is CLOCK_MONOTONIC until it has read
+ * CLOCK_MONOTONIC_RAW, and that from then on. */
 #define _GNU_SOURCE
 #include <dlfcn.h>
 #include <errno.h>
@@ -37,7 +39,7 @@ extern void *__libc_memalign(size_t, size_t);
 
 enum { PATH_BYTES = 4096, FEW = 7 };
 
-static const long long SECOND = 1000000000, HUNDREDTH = 10000000, MILLION = 1000000, LESS = 10000000000;
+static const long long SECOND = 1000000000, MILLION = 1000000, LESS = 10000000000;
 
 /* The path of the file of a kind, or an empty one. */
 static const char *path_of(const char *kind, char path[PATH_BYTES]) {
@@ -84,16 +86,41 @@ static long long system_shows(clockid_t clock) {
     return nanoseconds_in(time);
 }
 
-/* How far the monotonic clock is ahead of the system's, which shows `now`. */
-static long long ahead_at(long long now) {
+/* How far CLOCK_MONOTONIC of the system is ahead of CLOCK_MONOTONIC_RAW: it is slewed. */
+static long long lead;
+
+__attribute__((constructor)) static void look_at_lead(void) {
+    lead = system_shows(CLOCK_MONOTONIC) - system_shows(CLOCK_MONOTONIC_RAW);
+}
+
+/* How far a clock is ahead by the lines of a kind where CLOCK_MONOTONIC_RAW of the system shows `now`. */
+static long long ahead_by(const char *kind, long long now) {
     char text[PATH_BYTES];
-    ssize_t length = content_of("course", text, sizeof text - 1);
+    ssize_t length = content_of(kind, text, sizeof text - 1);
     long long from, shown, rate, ahead = 0;
     int used;
     text[length < 0 ? 0 : length] = 0;
     for (const char *rest = text; sscanf(rest, "%lld %lld %lld%n", &from, &shown, &rate, &used) == 3 && from <= now; rest += used)
         ahead = shown - from + (now - from) * rate / MILLION;
-    return ahead - (is_spoiled("clock") ? LESS : 0);
+    return ahead;
+}
+
+/* The number in the file of a kind, or else this one. */
+static long long number_in(const char *kind, long long otherwise) {
+    char text[32];
+    ssize_t length = content_of(kind, text, sizeof text - 1);
+    text[length < 0 ? 0 : length] = 0;
+    return length > 0 ? atoll(text) : otherwise;
+}
+
+/* What a clock shows where that of the system shows `now`. */
+static long long shown_by(clockid_t clock, long long now) {
+    if (clock == CLOCK_REALTIME) return number_in("date", now);
+    if (clock == CLOCK_BOOTTIME) return shown_by(CLOCK_MONOTONIC, system_shows(CLOCK_MONOTONIC)) + number_in("boot", 0);
+    if (clock != CLOCK_MONOTONIC && clock != CLOCK_MONOTONIC_RAW) return now;
+    long long less = is_spoiled("clock") ? LESS : 0;
+    if (clock == CLOCK_MONOTONIC_RAW) return now + ahead_by("course", now) - less;
+    return now + ahead_by("course", now - lead) + ahead_by("slew", now - lead) - less;
 }
 
 /* Adds a byte to the file of a kind, if it is there. */
@@ -105,7 +132,7 @@ static void count_in(const char *kind) {
     errno = error;
 }
 
-/* Whether this reading of the monotonic clock fails. */
+/* Whether this reading of the machine's clock fails. */
 static int is_unread(void) {
     static atomic_long readings;
     char signs[PATH_BYTES];
@@ -118,72 +145,36 @@ static int is_unread(void) {
     return signs[number < length ? number : length - 1] == 'x';
 }
 
-/* What the real-time clock shows: by its file, or else this. */
-static long long date_of(long long now) {
-    char text[32];
-    ssize_t length = content_of("date", text, sizeof text - 1);
-    text[length < 0 ? 0 : length] = 0;
-    return length > 0 ? atoll(text) : now;
+/* Whether the program measures by this clock as a machine. */
+static int is_machines(clockid_t clock) {
+    static atomic_int is_raw;
+    if (clock == CLOCK_MONOTONIC_RAW) is_raw = 1;
+    return clock == CLOCK_MONOTONIC_RAW || (clock == CLOCK_MONOTONIC && !is_raw);
 }
 
 int clock_gettime(clockid_t clock, struct timespec *time) {
     if (clock == CLOCK_REALTIME) last("telling");
-    if (clock == CLOCK_MONOTONIC) count_in("readings");
-    if (clock == CLOCK_MONOTONIC && is_unread()) { errno = EINVAL; return -1; }
+    int is_timed = is_machines(clock);
+    if (is_timed) count_in("readings");
+    if ((is_timed && is_unread()) || (clock == CLOCK_BOOTTIME && is_spoiled("no-boot"))) { errno = EINVAL; return -1; }
     int status = (int)syscall(SYS_clock_gettime, clock, time);
-    if (status == 0 && (clock == CLOCK_MONOTONIC || clock == CLOCK_REALTIME)) {
-        long long now = nanoseconds_in(*time), shown = clock == CLOCK_MONOTONIC ? now + ahead_at(now) : date_of(now);
+    if (status == 0) {
+        long long shown = shown_by(clock, nanoseconds_in(*time));
         time->tv_sec = shown / SECOND;
         time->tv_nsec = shown % SECOND;
     }
     return status;
 }
 
-/* What /proc/uptime shows. */
-static ssize_t put_uptime(char *place, size_t size) {
-    char text[64], more[32];
-    ssize_t length = content_of("uptime", more, sizeof more - 1);
-    long long ahead = ahead_at(system_shows(CLOCK_MONOTONIC)), shown;
-    more[length < 0 ? 0 : length] = 0;
-    shown = system_shows(CLOCK_BOOTTIME) + ahead + atoll(more);
-    size_t wanted = (size_t)snprintf(text, sizeof text, "%lld.%02lld 0.00\n", shown / SECOND, shown % SECOND / HUNDREDTH);
-    if (wanted > size) wanted = size;
-    memcpy(place, text, wanted);
-    return (ssize_t)wanted;
-}
-
-/* What a reading shows that took so many bytes of an open file. */
-static ssize_t shown_of(int file, char *place, size_t size, ssize_t length) {
-    char link[32], path[64];
-    int error = errno;
-    snprintf(link, sizeof link, "/proc/self/fd/%d", file);
-    ssize_t found = length > 0 ? readlink(link, path, sizeof path - 1) : -1;
-    path[found < 0 ? 0 : found] = 0;
-    errno = error;
-    if (strcmp(path, "/proc/uptime") == 0) {
-        if (!is_spoiled("no-uptime")) return put_uptime(place, size);
-        errno = EIO;
-        return -1;
-    }
-    if (strstr(path, "/timens_offsets") && is_spoiled("timens")) return content_of("timens", place, size);
-    return length;
-}
-
 int open(const char *path, int flags, ...) {
+    char shown[PATH_BYTES];
     va_list rest;
     va_start(rest, flags);
     int mode = flags & (O_CREAT | O_TMPFILE) ? va_arg(rest, int) : 0;
     va_end(rest);
     if (strstr(path, "/timens_offsets") && is_spoiled("no-timens")) { errno = ENOENT; return -1; }
+    if (strstr(path, "/timens_offsets") && is_spoiled("timens")) path = path_of("timens", shown);
     return (int)syscall(SYS_openat, AT_FDCWD, path, flags, mode);
-}
-
-ssize_t read(int file, void *place, size_t size) {
-    return shown_of(file, place, size, syscall(SYS_read, file, place, size));
-}
-
-ssize_t pread(int file, void *place, size_t size, off_t from) {
-    return shown_of(file, place, size, syscall(SYS_pread64, file, place, size, from));
 }
 
 ssize_t pwrite(int file, const void *bytes, size_t size, off_t from) {

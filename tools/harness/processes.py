@@ -48,6 +48,11 @@ def free_port(kind):
     raise Fault("no port is free")
 
 
+def raw_ns():
+    """What CLOCK_MONOTONIC_RAW shows, the clock of machines."""
+    return time.clock_gettime_ns(time.CLOCK_MONOTONIC_RAW)
+
+
 def nanoseconds_of(moment):
     """A time like 2026-11-26T23:41:51.123456789Z, in nanoseconds since 1970."""
     whole, fraction = re.fullmatch(r"([0-9]{4}-[0-9]{2}-[0-9]{2}T[0-9]{2}:[0-9]{2}:[0-9]{2})\.([0-9]{9})Z", moment).groups()

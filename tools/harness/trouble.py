@@ -12,7 +12,7 @@ import threading
 import time
 
 from harness import wire
-from harness.processes import Fault, Machine, free_port, truetime
+from harness.processes import Fault, Machine, free_port, raw_ns, truetime
 from harness.program import compile_c, read_text, write
 
 NOBODY = 65534
@@ -257,12 +257,13 @@ def send_empty(fake):
 # Calls.
 
 class Spoils:
-    """A folder of files that spoil the calls of programs, as tools/spoil_calls.c says, and the monotonic clock that these see."""
-    #: A turn of the clock is told so long before it comes, so that no program has seen a later time by then.
+    """A folder of files that spoil the calls of programs, as tools/spoil_calls.c says, and the clocks that these see: that of machines, and
+    CLOCK_MONOTONIC, which goes with it but where it is slewed."""
+    #: A turn of a clock is told so long before it comes, so that no program has seen a later time by then.
     AHEAD_NS = 30_000_000
 
     def __init__(self, room):
-        self.folder, self.course = os.path.join(room, "spoil"), []
+        self.folder, self.turns = os.path.join(room, "spoil"), {"course": [], "slew": []}
         os.mkdir(self.folder)
         library = compile_c("spoil_calls", room, "-Wall", "-Wextra", "-Wshadow", "-Wconversion", "-Werror", "-shared", "-fPIC")
         self.environment = dict(os.environ, LD_PRELOAD=library, SPOIL=self.folder)
@@ -285,19 +286,23 @@ class Spoils:
         finally:
             os.remove(self.path(kind))
 
-    def shown(self, now):
-        """What the clock shows when that of this process shows `now`."""
-        since, shown, rate = next((turn for turn in reversed(self.course) if turn[0] <= now), (now, now, 0))
+    def shown(self, now, kind="course"):
+        """What a clock shows by its turns of this kind when that of this process shows `now`."""
+        since, shown, rate = next((turn for turn in reversed(self.turns[kind]) if turn[0] <= now), (now, now, 0))
         return shown + (now - since) + (now - since) * rate // 1_000_000
 
-    def turn(self, rate=0, jump_ns=0):
+    def turn(self, rate=0, jump_ns=0, kind="course"):
         """Lets the clock jump, and then run by so many parts per million faster; the time since 1970 at which it does."""
-        since = time.monotonic_ns() + self.AHEAD_NS
-        self.course.append((since, self.shown(since) + jump_ns, rate))
-        self.tell("course", "".join("%d %d %d\n" % turn for turn in self.course))
-        while (left := since - time.monotonic_ns()) > 0:
+        since = raw_ns() + self.AHEAD_NS
+        self.turns[kind].append((since, self.shown(since, kind) + jump_ns, rate))
+        self.tell(kind, "".join("%d %d %d\n" % turn for turn in self.turns[kind]))
+        while (left := since - raw_ns()) > 0:
             time.sleep(left / 1e9)
-        return time.time_ns() - (time.monotonic_ns() - since)
+        return time.time_ns() - (raw_ns() - since)
+
+    def slew(self, rate):
+        """Lets CLOCK_MONOTONIC run by so many parts per million faster than the clock of machines; the time since 1970 at which it does."""
+        return self.turn(rate, kind="slew")
 
 
 # Guests.

@@ -23,7 +23,6 @@ READY_S, LOOKS, LOOK_S = 60.0, 40, 0.1
 SETTINGS = """machine = 0
 listen = "127.0.0.1:5601"
 faulty = 1
-drift = 700
 poll = "200ms"
 wait = "100ms"
 keys = "/etc/truetime/keys"

@@ -13,10 +13,11 @@ SOURCES, LIARS = 5, 2
 UNCERTAINTY = 1_000_000
 #: The names of the machines' hosts, and by how many seconds their clocks are shifted.
 SHIFTS_S = {"a": 0, "b": 864_000, "c": 40_000_000}
-DRIFT_PPM, MOST_RATE_PPM = 200, 180
+#: The clocks of machines change their rates by so much at most, which their drift allows, the default.
+MOST_RATE_PPM = 180
 FORGER, FORGED_A_SECOND = "x", 150
 FAMILIES = {"four": (4, ), "six": (6, ), "mixed": (4, 6)}
-SETTINGS = {"poll": "200ms", "wait": "100ms", "drift": DRIFT_PPM, "max_width": "1s"}
+SETTINGS = {"poll": "200ms", "wait": "100ms", "max_width": "1s"}
 
 
 def key_number(machine: int, source: int) -> int:

@@ -18,7 +18,7 @@ import tempfile
 import time
 import typing
 
-from harness.processes import SECOND, Fault
+from harness.processes import SECOND, Fault, raw_ns
 from harness.program import WARNINGS, compile_c, run, write
 from lab.router import LIBC, Router, end_with_parent
 
@@ -136,7 +136,7 @@ def clean(prefix: str = PREFIX) -> list[str]:
 
 
 class HostClock:
-    """The monotonic clock that the processes of a host see, by tools/spoil_calls.c: it runs as fast as it is told."""
+    """The clock that the processes of a host see, by tools/spoil_calls.c: it runs as fast as it is told."""
     #: A turn is told so long before it comes, so that no process has seen a later time by then.
     AHEAD_NS = 30_000_000
 
@@ -149,7 +149,7 @@ class HostClock:
     def run_by(self, rate: int) -> None:
         """It runs by so many parts per million faster from now on."""
         since, shown, old = self.turns[-1]
-        then = time.monotonic_ns() + self.shift_ns + self.AHEAD_NS
+        then = raw_ns() + self.shift_ns + self.AHEAD_NS
         self.turns = [self.turns[-1], (then, shown + then - since + (then - since) * old // 1_000_000, rate)]
         self.tell("course", "".join("%d %d %d\n" % turn for turn in self.turns))
         time.sleep(self.AHEAD_NS / SECOND)

@@ -45,7 +45,7 @@ class Announced(NtpMaster):
 
     def __init__(self, host: hosts.Host, source: int, keys: KeyFile, ahead_ns: int):
         mode, rate = SERVERS[source]
-        lines = [RECEIVER, "maxclockerror 30", "maxslewrate 500", "makestep 0.1 -1", f"leapsecmode {mode}"]
+        lines = [RECEIVER, "maxclockerror 30", "makestep 0.1 -1", f"leapsecmode {mode}"]
         self.server = host.lab.keep(Chronyd(host, f"chronyd-{host.name}", lines, rate, ahead_ns))
         self.server.receivers[0].leap = INSERTED
         super().__init__(host, source, [f"127.0.0.1:{PORT}"], keys, every=EVERY)

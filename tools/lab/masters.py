@@ -18,8 +18,7 @@ from lab.services import POLLS, KeyFile, Machine, OnHost, Source, new_key, sum_i
 from lab.users import Users
 
 SOURCES = 5
-DRIFT_PPM = 200
-SETTINGS = {"poll": "200ms", "wait": "100ms", "drift": DRIFT_PPM, "max_width": "1s"}
+SETTINGS = {"poll": "200ms", "wait": "100ms", "max_width": "1s"}
 #: The lines of a chronyd with a receiver, and what its server lines have in common; polls are fast, since a run is short.
 RECEIVER = "refclock SOCK @receiver refid GPS poll 0 precision 1e-6 delay 2e-6"
 FAST = "iburst minpoll -1 maxpoll -1"
@@ -186,10 +185,10 @@ class Strata(Masters):
         first = [self.chronyd("a", RECEIVER, "maxclockerror 30", rate=30), self.chronyd("b", RECEIVER, "maxclockerror 30", rate=-25)]
         for server in first:
             server.wait_until_synchronised()
-        second = [self.chronyd("c", *self.server_lines("a", "b"), "maxclockerror 30", "maxslewrate 500", rate=-40),
+        second = [self.chronyd("c", *self.server_lines("a", "b"), "maxclockerror 30", rate=-40),
                   self.ntpd("d", *self.server_lines("a", how="iburst minpoll 0 maxpoll 0"), NO_LIMIT, rate=15)]
         second[0].wait_until_synchronised()
-        third = self.chronyd("e", *self.server_lines("c"), "maxclockerror 30", "maxslewrate 500", rate=-10)
+        third = self.chronyd("e", *self.server_lines("c"), "maxclockerror 30", rate=-10)
         third.wait_until_synchronised()
         self.servers: list[Chronyd | Ntpd] = [*first, *second, third]
 

@@ -212,7 +212,7 @@ class Sharded(Fleet):
             machine.restart()  # a life that began meanwhile may be right by chance, and not be yet
 
     def sleep(self) -> None:
-        """The host c is suspended: its processes and its clock stand still, and its uptime goes on."""
+        """The host c is suspended: its processes and its clock stand still, and CLOCK_BOOTTIME goes on."""
         clock, agents = self.hosts[TURNING].clock, [agent for agent in self.agents if agent.host.name == TURNING]
         with self.broken("a suspended host", TURNING) as broken:
             go_on = [stop(running) for running in (*(agent.running for agent in agents), *self.users_of[TURNING], self.machines[TURNING].running)]
@@ -220,7 +220,7 @@ class Sharded(Fleet):
             time.sleep(SLEEP_S)
             clock.run_by(0)
             self.slept_ns += clock.turns[-1][0] - clock.turns[-2][0]
-            clock.tell("uptime", str(self.slept_ns))
+            clock.tell("boot", str(self.slept_ns))
             since = time.time_ns()
             for call in go_on:
                 call()

@@ -9,7 +9,7 @@ from lab.masters import RECEIVER, SOURCES, Masters, ahead_of_others, microsecond
 from lab.users import table
 
 #: A machine's settings, and how often masters ask: the goal is for these.
-SETTINGS = {"poll": "1s", "wait": "100ms", "drift": 200, "faulty": 2}
+SETTINGS = {"poll": "1s", "wait": "100ms", "faulty": 2}
 EVERY = "200ms"
 GOAL_NS = 600_000
 NAMES = [f"s{number}" for number in range(SOURCES)]
@@ -74,7 +74,7 @@ def tell(program: str, seconds: float, say: typing.Callable[[str], None], every:
                       ("a question of this process to it", "question")):
         if seen[key]:
             rows.append((name, *(microseconds(call(seen[key])) for call in (min, statistics.median, max))))
-    say(f"five masters that ask stratum 1 across a wire every {every}; poll 1s, drift 200, f = 2\n{table(rows)}")
+    say(f"five masters that ask stratum 1 across a wire every {every}; poll 1s, f = 2\n{table(rows)}")
     if seen["wrong"]:
         wrong.append(f"{len(seen['wrong'])} readings are wrong")
     if not seen["new"]:

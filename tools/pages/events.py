@@ -10,7 +10,7 @@ HEAD = """\
 This page, made by `tools/reference`, lists the events in the log of a machine and of a master, by name.
 
 A line is `time=2026-11-26T23:41:51.123456789Z level=L event=E` (UTC), and then ` NAME=VALUE` for each field, or the same as one object \
-of JSON, with addresses as strings. Names that end in `_ns` are nanoseconds. `number` is that of a [refusal](refusals.md), `errno` the system's number, or 0 if it \
+of JSON, with addresses as strings. Names that end in `_ns` are nanoseconds, in `_ppm` parts per million. `number` is that of a [refusal](refusals.md), `errno` the system's number, or 0 if it \
 has none. After an event, no second line of its kind follows for QUIET seconds; sources, servers and the numbers of `fusion_refused` \
 count apart. A line is also left out if 256 lines wait to be written. The next line of the kind then has `left_out=N`.
 
@@ -39,7 +39,7 @@ class Events:
         body = "\n".join(function(self.text, "push_fields"))
         found = {}
         for arm in re.split(r"(?=LogEvent::\w+(?: \{[^}]*\})? =>)", body)[1:]:
-            named = re.findall(r'push_field\(text, format, "(\w+)"|push_(address)\(', arm)
+            named = re.findall(r'push_(?:field|part)\(text, format, "(\w+)"|push_(address)\(', arm)
             found[re.match(r"LogEvent::(\w+)", arm)[1]] = [one or other for one, other in named]
         return found
 

@@ -129,7 +129,7 @@ def page():
     """The text of the page."""
     metrics = Metrics()
     heads = ["name", "type", "labels", "what it says"]
-    machine = list(metrics.rows("statuses.rt", "machine"))
+    machine = [*metrics.rows("statuses.rt", "machine"), *metrics.rows("slewings.rt", "machine")]
     master = [*metrics.rows("master_statuses.rt", "source"), *metrics.rows("server_statuses.rt", "source")]
     names = {row[0].strip("`") for row in machine + master}
     for name in metrics.words:

@@ -16,6 +16,27 @@ The file is a document in TOML, with these keys alone. A length of time is a tex
 spelled and which fault is found first, [OPERATING.md](../OPERATING.md), section 1, how to choose.
 
 """
+FOOT = """
+## The clock and its drift
+
+`CLOCK_MONOTONIC_RAW` is the counter of the host's clock source, by a rate that the kernel sets at its start and never changes. Crystals stay \
+within 100 parts per million of their frequency over temperature and age, and the default of `drift` is twice that. To it comes how well the kernel \
+knows the frequency. `/sys/devices/system/clocksource/clocksource0/current_clocksource` names the source:
+
+| what the crystal drives | clock source | beside the crystal | `drift` |
+|---|---|---|---|
+| a counter of the processor | `tsc` | its frequency is stated by the processor, or measured at the start of the kernel: some parts per million | 200 |
+| that counter of a guest's host | `kvm-clock`, `hyperv_clocksource_tsc_page`, `xen` | the frequency is what the host tells: what it measured at its own start | 200 |
+| a timer of the chipset at 3.58 MHz | `acpi_pm` | nothing | 200 |
+| another timer of the chipset | `hpet` | its specification allows 500 in all | 500 |
+
+In a virtual machine the counter is that of the host's processor. While the guest is paused or moved, its clock stands or jumps: `vmclock` and \
+[OPERATING.md](../OPERATING.md), section 6, are about that. `truetime_source_clock_rate_ratio` shows what the clock gains against each master, and \
+[TruetimeClockRate](alerts.md#truetimeclockrate) fires where it is past `drift`.
+
+With `clock = "monotonic"` what an NTP daemon slews counts as well: a clock that loses a part s of true time needs a drift of s / (1 - s). \
+`rates` of `ttd serve --check` has what a drift covers.
+"""
 UNITS = (("s", 10**9), ("ms", 10**6), ("us", 10**3), ("ns", 1))
 TABLE_KEYS = {"address", "key"}
 
@@ -105,4 +126,4 @@ def page():
     heads = ["key", "kind", "range", "default", "meaning"]
     of_machine = [row for row in rows if row[0].strip("`") not in TABLE_KEYS]
     of_master = [row for row in rows if row[0].strip("`") in TABLE_KEYS]
-    return HEAD + table(heads, of_machine) + "\nIn each table `[[master]]`:\n\n" + table(heads, of_master)
+    return HEAD + table(heads, of_machine) + "\nIn each table `[[master]]`:\n\n" + table(heads, of_master) + FOOT

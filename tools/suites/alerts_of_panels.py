@@ -28,6 +28,9 @@ ROWS = {
                                                                "newest_answer_age_seconds": "newest answer"}),
         "Rounds and publications": ("ops", {"+rounds_total": "rounds", "+publications_total": "publications", "+rounds_stale_total": "stale rounds"}),
         "Refused fusions and answers": ("ops", {"+fusions_refused_total": "fusions {{number}}", "+answers_refused_total": "answers"}),
+        "Rate of CLOCK_MONOTONIC": ("percentunit", {"slewed_clock_rate_ratio": ""}),
+        "Readers by CLOCK_MONOTONIC": ("short", {"slewed_base_withdrawn": "told nothing",
+                                                 "=increase(truetime_slewed_base_withdrawals_totalS[1h])": "times"}),
     },
     "Sources": {
         "Sources that are known, and suspects": ("short", {"sources": "all", "sources_known": "known",

@@ -51,6 +51,7 @@ WANTED = {
     "TruetimeMasterWide": ("truetime_master_width_seconds > scalar(truetime:warn_width_seconds)", "1m", TICKET),
     "TruetimeNotSharing": ("truetime_sharing == 0", "1m", TICKET),
     "TruetimeSleepUnseen": ("truetime_sleep_unseen == 1", "1m", TICKET),
+    "TruetimeSlewedTooFast": ("truetime_slewed_base_withdrawn == 1", "2m", TICKET),
     "TruetimeSessionsFull": ("truetime_sessions_open > 0.45 * 320 * truetime_workers", "1m", TICKET),
     "TruetimeConnectionsWaiting": ("truetime_connections_waiting > 0", "1m", TICKET),
     "TruetimeCommitsWaiting": (against_hour("avg_over_time(truetime_commits_waiting[5m])", "avg_over_time(truetime_commits_waiting[1h] offset 5m)", 1),

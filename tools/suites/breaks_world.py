@@ -223,7 +223,7 @@ class World:
         wrong = self.users.wrong()
         self.trial.note(f"{len(wrong)} of {len(self.users.readings)} readings were wrong")
         if outside := [got for got in wrong if got.after < began or got.before > told]:
-            yield f"{len(outside)} readings were wrong before it or later, the first is {outside[0]}"
+            yield f"{len(outside)} readings were wrong before {began} or after {told}, the end was at {ended}, the first is {outside[0]}"
         if given := [got for got in self.users.readings if told < got.before < ended]:
             yield f"{len(given)} readings were given after it was told, the first is {given[0]}"
         if others := {number for _, number in self.users.refused} - OF_A_BREAK:

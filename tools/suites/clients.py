@@ -1,5 +1,5 @@
 """Tests the readers and sessions of clients/: each is compiled without a warning, gives the answers that are wanted for the same
-vectors, the same files, mapped and not, a file that becomes shorter, and the same conversations with a stand-in for the service, and the C
+vectors, slots and files, mapped and not, a file that becomes shorter, and the same conversations with a stand-in for the service, and the C
 reader is put beside a writer that never pauses, also with the compiler's checks of addresses, undefined behaviour and threads. The cases
 of stampers are in clients_of_stampers.py, those of what is opened and closed in clients_of_openings.py, how long each of them waits in
 clients_of_waits.py, the words of errors and invalid arguments in clients_of_errors.py, and programs that commit in a loop in
@@ -34,6 +34,19 @@ MAX, SECOND = 4_000_000_000_000_000_000, 1_000_000_000
 
 
 NO_LIMIT = 2**64 - 1
+# The clocks of a file, by their numbers in Linux: CLOCK_MONOTONIC and CLOCK_MONOTONIC_RAW.
+MONOTONIC, RAW = 1, 4
+MAX_DRIFT = 100_000
+
+
+def knows_raw(name):
+    """Whether the readers of a language read CLOCK_MONOTONIC_RAW. The others read the second base of a file by it, by CLOCK_MONOTONIC."""
+    return name not in ("Java", "Go")
+
+
+def clock_shows(clock):
+    """A clock, in nanoseconds."""
+    return time.clock_gettime_ns({MONOTONIC: time.CLOCK_MONOTONIC, RAW: time.CLOCK_MONOTONIC_RAW}[clock])
 
 
 def reading_at(clock, lo, hi, drift, usable, now):
@@ -116,22 +129,138 @@ def whole_vectors(tried):
         yield (*numbers, valid, epoch, number, t), answer
 
 
+def is_base(clock, lo, hi, drift):
+    """Whether a daemon writes such a clock reading, span and drift."""
+    return clock <= MAX and lo <= hi <= MAX and drift <= MAX_DRIFT
+
+
+def said_of_slot(file_clock, index, slot, is_raw_known, shown):
+    """What is said of the slot that is current at this index, in a file by this clock, where the clocks show this: the number of the clock that
+    is read, and the reading. By docs/FORMATS.md, section 11."""
+    echo, clock, lo, hi, fresh, epoch, number, drift, usable, clock_2, lo_2, hi_2, drift_2, fresh_2, usable_2, zero = slot
+    if index == 0:
+        return "refused 801"
+    if echo != index or not is_base(clock, lo, hi, drift) or not is_base(clock_2, lo_2, hi_2, drift_2) or zero != 0:
+        return "refused 1703"
+    if usable == 0:
+        return "refused 801"
+    if file_clock == RAW and not is_raw_known:
+        if usable_2 == 0:
+            return "refused 1710"
+        file_clock, clock, lo, hi, drift, fresh, usable = MONOTONIC, clock_2, lo_2, hi_2, drift_2, fresh_2, usable_2
+    now = shown[file_clock]
+    answer = reading_at(clock, lo, hi, drift, usable, now)
+    return answer if answer.startswith("refused") else f"{file_clock} {answer} {epoch} {number} {'fresh' if now <= fresh else 'stale'}"
+
+
+# Worked out by hand: the clock of a file, what is in its slot in place of what GOOD_SLOT has, what CLOCK_MONOTONIC and CLOCK_MONOTONIC_RAW show,
+# and what is said by who knows both, and by who knows the first of them alone.
+GOOD_SLOT = (1, 1000, 5, 15, 6000, 7, 9, 200, 7000, 500_000, 2000, 3000, 1000, 510_000, 520_000, 0)
+EACH_1703 = [{0: 2}, {0: 257}, {1: MAX + 1}, {1: NO_LIMIT}, {2: 16}, {3: MAX + 1}, {7: 100_001}, {9: MAX + 1}, {9: NO_LIMIT}, {10: 3001}, {11: MAX + 1},
+             {12: 100_001}, {12: NO_LIMIT}, {15: 1}, {15: 2**63}, {8: 0, 15: 1}, {14: 0, 15: 1}, {8: 0, 9: MAX + 1}, {14: 0, 12: 100_001}]
+SLOTS_BY_HAND = [
+    (MONOTONIC, {}, (1000, 0), "1 5 15 7 9 fresh", "1 5 15 7 9 fresh"),
+    (MONOTONIC, {}, (6000, 0), "1 5004 5016 7 9 fresh", "1 5004 5016 7 9 fresh"),
+    (MONOTONIC, {}, (6001, 0), "1 5004 5018 7 9 stale", "1 5004 5018 7 9 stale"),
+    (MONOTONIC, {}, (7000, 0), "1 6003 6017 7 9 stale", "1 6003 6017 7 9 stale"),
+    (MONOTONIC, {}, (7001, 6000), "refused 1708", "refused 1708"),
+    (MONOTONIC, {}, (999, 6000), "refused 802", "refused 802"),
+    (MONOTONIC, {place: 0 for place in range(9, 15)}, (1000, 0), "1 5 15 7 9 fresh", "1 5 15 7 9 fresh"),
+    (MONOTONIC, {14: 0}, (1000, 0), "1 5 15 7 9 fresh", "1 5 15 7 9 fresh"),
+    (RAW, {}, (500_000, 1000), "4 5 15 7 9 fresh", "1 2000 3000 7 9 fresh"),
+    (RAW, {}, (510_000, 6000), "4 5004 5016 7 9 fresh", "1 11990 13010 7 9 fresh"),
+    (RAW, {}, (510_001, 6001), "4 5004 5018 7 9 stale", "1 11990 13012 7 9 stale"),
+    (RAW, {}, (520_000, 7000), "4 6003 6017 7 9 stale", "1 21980 23020 7 9 stale"),
+    (RAW, {}, (520_001, 7001), "refused 1708", "refused 1708"),
+    (RAW, {}, (499_999, 999), "refused 802", "refused 802"),
+    (RAW, {}, (520_001, 1000), "4 5 15 7 9 fresh", "refused 1708"),
+    (RAW, {}, (500_000, 999), "refused 802", "1 2000 3000 7 9 fresh"),
+    (RAW, {}, (MAX + 1, MAX + 1), "refused 802", "refused 802"),
+    (RAW, {8: NO_LIMIT, 14: NO_LIMIT}, (MAX + 1, NO_LIMIT), "refused 802", "refused 802"),
+    (RAW, {9: MAX, 11: MAX, 12: 100_000, 14: MAX}, (MAX, 1000), "4 5 15 7 9 fresh", f"1 2000 {MAX} 7 9 stale"),
+    (RAW, {9: 0, 10: 0, 11: 0, 12: 100_000}, (11, 1000), "4 5 15 7 9 fresh", "1 9 13 7 9 fresh"),
+    (RAW, {13: 0}, (500_000, 1000), "4 5 15 7 9 fresh", "1 2000 3000 7 9 stale"),
+    (RAW, {4: 0}, (500_000, 1000), "4 5 15 7 9 stale", "1 2000 3000 7 9 fresh"),
+    # Where there is no second base that is said first, whatever the clock shows.
+    (RAW, {14: 0}, (500_000, 1000), "4 5 15 7 9 fresh", "refused 1710"),
+    (RAW, {14: 0}, (499_999, 999), "refused 802", "refused 1710"),
+    (RAW, {14: 0}, (MAX + 1, 7001), "refused 1708", "refused 1710"),
+    (RAW, {place: 0 for place in range(9, 15)}, (0, 7000), "4 6003 6017 7 9 stale", "refused 1710"),
+    # And before that, that nothing is published any more.
+    (MONOTONIC, {8: 0}, (1000, 0), "refused 801", "refused 801"),
+    (RAW, {8: 0}, (500_000, 1000), "refused 801", "refused 801"),
+    (RAW, {8: 0, 14: 0}, (0, 0), "refused 801", "refused 801"),
+    *((clock, changed, shown, "refused 1703", "refused 1703") for clock, shown in ((MONOTONIC, (1000, 0)), (RAW, (500_000, 1000)), (RAW, (0, 0)))
+      for changed in EACH_1703),
+]
+
+
+def slots(seed, number):
+    """Slots and what the clocks show, at and near the edges: the index, the words of the slot, and a reading of each clock."""
+    chance = random.Random(seed)
+
+    def a_time():
+        return chance.choice([chance.randrange(10**chance.randrange(1, 19)), chance.randrange(MAX + 1), MAX, 0])
+
+    def near(time_ns):
+        return min(max(time_ns + chance.choice([-1, 0, 0, 0, 1, chance.randrange(10**9)]), 0), NO_LIMIT)
+
+    for _ in range(number):
+        bases, shown = [], []
+        for _ in range(2):
+            lo, hi = sorted((a_time(), a_time()))
+            clock = a_time()
+            now = near(clock)
+            fresh, usable = (chance.choice([near(now), near(now), NO_LIMIT, a_time(), chance.randrange(2**64)]) for _ in range(2))
+            bases.append((clock, lo, hi, chance.choice([0, 1, 200, MAX_DRIFT, chance.randrange(MAX_DRIFT + 1)]), fresh, usable))
+            shown.append(chance.choice([now, now, now, now, near(fresh), near(usable), MAX, MAX + 1, a_time()]))
+        (clock, lo, hi, drift, fresh, usable), (clock_2, lo_2, hi_2, drift_2, fresh_2, usable_2) = bases
+        index = chance.choice([1, 2, 257, index_number(chance.randrange(1, 2**64))])
+        slot = [index, clock, lo, hi, fresh, chance.randrange(2**64), chance.randrange(2**64), drift, usable, clock_2, lo_2, hi_2, drift_2, fresh_2, usable_2, 0]
+        if chance.random() < 0.15:
+            slot[14] = 0
+        if chance.random() < 0.05:
+            slot[8] = 0
+        if chance.random() < 0.25:
+            place = chance.choice([0, 1, 2, 3, 7, 9, 10, 11, 12, 15])
+            slot[place] = {0: index ^ 1 << chance.randrange(64), 2: slot[3] + 1, 7: MAX_DRIFT + 1, 10: slot[11] + 1, 12: MAX_DRIFT + 1,
+                           15: 1 << chance.randrange(64)}.get(place, chance.choice([MAX + 1, NO_LIMIT]))
+        yield 0 if chance.random() < 0.02 else index, slot, (shown[1], shown[0])
+
+
 def index_of(count):
     digits = [count >> 8 * place & 0xFF for place in range(8)] + [0]
     return bytes((digits[place] - digits[place + 1]) % 256 for place in range(8))
 
 
+def index_number(count):
+    """The same as a number."""
+    return int.from_bytes(index_of(count), "little")
+
+
 SLOT_BYTES, FILE_BYTES = 128, 320
 
 
-def file_of(count, publication, boot, **changes):
-    """The bytes of a file whose last publication this is; `changes` puts other bytes at a place."""
-    index = index_of(count)
-    slots = [bytes(SLOT_BYTES), bytes(SLOT_BYTES)]
+def slot_of(count, publication, second=(0,) * 6):
+    """The bytes of a slot, with a second base: its clock, the ends of its span, its drift, and until when it is fresh, and usable."""
+    clock, lo, hi, until, usable, epoch, number, drift = publication
+    return index_of(count) + struct.pack("<15Q", clock, lo, hi, until, epoch, number, drift, usable, *second, 0)
+
+
+def second_of(publication):
+    """A second base with the same numbers."""
+    clock, lo, hi, until, usable, _, _, drift = publication
+    return clock, lo, hi, drift, until, usable
+
+
+def file_of(count, publication, boot, clock=RAW, second=None, **changes):
+    """The bytes of a file by this clock, whose last publication this is; `changes` puts other bytes at a place. A file by CLOCK_MONOTONIC_RAW has a
+    second base with the same numbers, where nothing else is said."""
+    each = [bytes(SLOT_BYTES), bytes(SLOT_BYTES)]
     if count > 0:
-        clock, lo, hi, until, usable, epoch, number, drift = publication
-        slots[count % 2] = (index + struct.pack("<8Q", clock, lo, hi, until, epoch, number, drift, usable)).ljust(SLOT_BYTES, b"\0")
-    whole = bytearray(b"TTS2" + struct.pack("<IQ", FILE_BYTES, 1) + index + boot + bytes(4) + slots[0] + slots[1])
+        second = second or (second_of(publication) if clock == RAW else (0,) * 6)
+        each[count % 2] = slot_of(count, publication, second)
+    whole = bytearray(b"TTS3" + struct.pack("<IQ", FILE_BYTES, clock) + index_of(count) + boot + bytes(4) + each[0] + each[1])
     for place, byte in changes.get("at", {}).items():
         whole[place] = byte
     return bytes(whole[: changes.get("length", len(whole))]) + changes.get("more", b"")
@@ -143,19 +272,45 @@ def file_of_version_1(boot):
     return b"TTS1" + struct.pack("<IQ", 192, 1) + index + boot + bytes(4 + 64) + index + struct.pack("<7Q", 10, 20, 30, 40, 7, 1, 200)
 
 
+def file_of_version_2(boot):
+    """A file as version 2 of the format has it."""
+    index = index_of(1)
+    return (b"TTS2" + struct.pack("<IQ", FILE_BYTES, 1) + index + boot + bytes(4 + SLOT_BYTES)
+            + index + struct.pack("<8Q", 10, 20, 30, 40, 7, 1, 200, NO_LIMIT) + bytes(56))
+
+
 def files():
-    """Files, how their modes are, and what a reader says of them."""
+    """Files, how their modes are, and what a reader says of them, or what one says that knows CLOCK_MONOTONIC_RAW, and one that does not."""
     with open("/proc/sys/kernel/random/boot_id", "rb") as file:
         boot = file.read(36)
-    good = (10, 20, 30, 2**64 - 1, 2**64 - 3, 7, 2**64 - 2, 100_000)
+    good, second = (10, 20, 30, 2**64 - 1, 2**64 - 3, 7, 2**64 - 2, 100_000), (11, 21, 31, 99_999, 2**64 - 5, 2**64 - 7)
     said = "published 10 20 30 18446744073709551615 18446744073709551613 7 18446744073709551614 100000"
+    either = said, "published 11 21 31 18446744073709551611 18446744073709551609 7 18446744073709551614 99999"
     for count in (1, 2, 3, 255, 256, 257, 511, 512, 65_535, 65_536, 65_537, 2**32 - 1, 2**32, 2**56, 2**64 - 1):
-        yield f"count {count}", file_of(count, good, boot), 0o644, said
+        yield f"count {count}", file_of(count, good, boot, RAW, second), 0o644, either
+    yield "by CLOCK_MONOTONIC", file_of(1, good, boot, MONOTONIC), 0o644, said
+    yield "by CLOCK_MONOTONIC, with a second base", file_of(1, good, boot, MONOTONIC, second), 0o644, said
+    yield "without a second base", file_of(1, good, boot, RAW, (0,) * 6), 0o644, (said, "refused 1710")
+    yield "a second base that may not be used", file_of(1, good, boot, RAW, (*second[:5], 0)), 0o644, (said, "refused 1710")
+    yield "one for the first reading alone", file_of(1, good, boot, RAW, (0, 21, 31, 0, 0, 1)), 0o644, (said, "published 0 21 31 0 1 7 18446744073709551614 0")
+    edge = (MAX, MAX, MAX, MAX_DRIFT, 0, NO_LIMIT)
+    yield "a second base at the edges", file_of(1, good, boot, RAW, edge), 0o644, (
+        said, f"published {MAX} {MAX} {MAX} 0 {NO_LIMIT} 7 18446744073709551614 100000")
+    for clock in (MONOTONIC, RAW):
+        for place, number in (0, MAX + 1), (1, 32), (2, MAX + 1), (3, MAX_DRIFT + 1):
+            bad = (*second[:place], number, *second[place + 1:])
+            yield f"a second base with {number}, by clock {clock}", file_of(1, good, boot, clock, bad), 0o644, "refused 1703"
+            yield f"no second base with {number}, by clock {clock}", file_of(1, good, boot, clock, (*bad[:5], 0)), 0o644, "refused 1703"
     yield "nothing published", file_of(0, good, boot), 0o644, "refused 801"
-    yield "another format", file_of(1, good, boot, at={3: ord("1")}), 0o644, "refused 1702"
+    yield "nothing published, by CLOCK_MONOTONIC", file_of(0, good, boot, MONOTONIC), 0o644, "refused 801"
+    yield "another format", file_of(1, good, boot, at={3: ord("4")}), 0o644, "refused 1702"
     yield "version 1", file_of_version_1(boot), 0o644, "refused 1702"
+    yield "version 2", file_of_version_2(boot), 0o644, "refused 1702"
     yield "another length in the head", file_of(1, good, boot, at={4: 0x41}), 0o644, "refused 1702"
-    yield "another clock", file_of(1, good, boot, at={8: 2}), 0o644, "refused 1702"
+    for clock in (0, 2, 3, 5, 6, 7, 8, 11, 260):
+        yield f"clock {clock}", file_of(1, good, boot, clock), 0o644, "refused 1702"
+    for clock in (MONOTONIC, RAW):
+        yield f"clock {clock}, and more", file_of(1, good, boot, clock, at={15: 1}), 0o644, "refused 1702"
     yield "another boot", file_of(1, good, bytes([boot[0] ^ 1]) + boot[1:]), 0o644, "refused 1702"
     yield "no zeros behind the boot", file_of(1, good, boot, at={63: 1}), 0o644, "refused 1702"
     yield "too short", file_of(1, good, boot, length=FILE_BYTES - 1), 0o644, "refused 1702"
@@ -164,17 +319,20 @@ def files():
     yield "writable by the group", file_of(1, good, boot), 0o664, "refused 1702"
     yield "writable by others", file_of(1, good, boot), 0o646, "refused 1702"
     yield "a slot of another index", file_of(1, good, boot, at={192: 2}), 0o644, "refused 1703"
-    yield "no zero behind the numbers", file_of(1, good, boot, at={192 + 72: 1}), 0o644, "refused 1703"
+    yield "no zero behind the numbers", file_of(1, good, boot, at={192 + 120: 1}), 0o644, "refused 1703"
     yield "no zero at the end of the slot", file_of(1, good, boot, at={319: 1}), 0o644, "refused 1703"
+    yield "the same, by CLOCK_MONOTONIC", file_of(1, good, boot, MONOTONIC, at={319: 1}), 0o644, "refused 1703"
     yield "no zero in the other slot", file_of(1, good, boot, at={191: 1}), 0o644, said
     yield "nothing any more", file_of(1, (10, 20, 30, 40, 0, 7, 8, 200), boot), 0o644, "refused 801"
+    yield "nothing any more, with a second base", file_of(1, (10, 20, 30, 40, 0, 7, 8, 200), boot, RAW, second), 0o644, "refused 801"
     yield "nothing any more, in a bad slot", file_of(1, (10, 20, 30, 40, 0, 7, 8, 100_001), boot), 0o644, "refused 1703"
     yield "usable at the first reading alone", file_of(1, (0, 20, 30, 40, 1, 7, 8, 200), boot), 0o644, "published 0 20 30 40 1 7 8 200"
     edge = (MAX, MAX, MAX, 0, 2**64 - 1, 0, 0, 0)
     yield "the greatest times", file_of(1, edge, boot), 0o644, f"published {MAX} {MAX} {MAX} 0 18446744073709551615 0 0 0"
     for name, bad in [("a clock past the greatest time", (MAX + 1, 0, 0, 0, 1, 0, 0, 0)), ("ends out of order", (0, 2, 1, 0, 1, 0, 0, 0)),
                       ("an end past the greatest time", (0, 0, MAX + 1, 0, 1, 0, 0, 0)), ("a drift too great", (0, 0, 0, 0, 1, 0, 0, 100_001))]:
-        yield name, file_of(1, bad, boot), 0o644, "refused 1703"
+        yield name, file_of(1, bad, boot, RAW, second), 0o644, "refused 1703"
+        yield f"{name}, by CLOCK_MONOTONIC", file_of(1, bad, boot, MONOTONIC), 0o644, "refused 1703"
 
 
 # Of a session whose greatest width is 10: what is narrow enough, and what is not.
@@ -700,6 +858,11 @@ class Reader:
         return self.probe.stdout.readline().strip()
 
 
+def said_by(name, answer):
+    """What a language says where it depends on whether it knows CLOCK_MONOTONIC_RAW."""
+    return answer if isinstance(answer, str) else answer[not knows_raw(name)]
+
+
 def said_of_file(words, reader, path):
     """What the reader of a mapped file says of this one, and that of one that is not mapped."""
     return [run([*words, "open", path], seconds=60).said.strip(), reader.say(f"open {path}")]
@@ -709,6 +872,7 @@ def try_files(trial, name, words, reader, path):
     """Files, good and bad, and what is no file; their number."""
     tried = 0
     for what, content, mode, answer in files():
+        answer = said_by(name, answer)
         with open(path, "wb") as file:
             file.write(content)
         os.chmod(path, mode)
@@ -720,7 +884,7 @@ def try_files(trial, name, words, reader, path):
         with open(path, "wb") as file:
             file.write(next(files())[1])
         os.chmod(path, 0o644)
-        for what, owner, wanted in ("another owner", 65_534, "refused 1702"), ("the owner again", 0, "published 10 "):
+        for what, owner, wanted in ("another owner", 65_534, "refused 1702"), ("the owner again", 0, "published 1"):
             os.chown(path, owner, 65_534)
             said = said_of_file(words, reader, path)
             tried += 1
@@ -756,6 +920,32 @@ def try_shrinking(trial, name, reader, path):
     return len(lengths)
 
 
+def try_slots(trial, name, reader, path, boot):
+    """Slots by the clocks that they have, mapped and not; their number."""
+    tried = 0
+    for clock in (MONOTONIC, RAW):
+        by_hand = [(GOOD_SLOT[0], [changed.get(place, word) for place, word in enumerate(GOOD_SLOT)], shown, answer[not knows_raw(name)])
+                   for of, changed, shown, *answer in SLOTS_BY_HAND if of == clock]
+        by_chance = [(*each, said_of_slot(clock, *each[:2], knows_raw(name), {MONOTONIC: each[2][0], RAW: each[2][1]})) for each in slots(clock, 1000)]
+        with open(path, "wb") as file:
+            file.write(file_of(0, None, boot, clock))
+        os.chmod(path, 0o644)
+        with open(path, "r+b", buffering=0) as file:
+            for way in ("map", "open"):
+                os.pwrite(file.fileno(), bytes(8), 16)
+                trial.equal(f"{name}: {way}", reader.say(f"{way} {path}"), "refused 801")
+                for index, slot, shown, answer in by_hand + by_chance:
+                    # The other slot has what no daemon writes.
+                    current, other = struct.pack("<16Q", *slot), b"\xff" * SLOT_BYTES
+                    is_odd = sum(byte & 1 for byte in index.to_bytes(8, "little")) % 2
+                    os.pwrite(file.fileno(), index.to_bytes(8, "little") + boot + bytes(4) + (other + current if is_odd else current + other), 16)
+                    said = reader.say(f"at {shown[0]} {shown[1]}")
+                    trial.check(name, said == answer, f"{way}, clock {clock}, index {index}, {slot} at {shown}: {said!r} in place of {answer!r}")
+                    tried += 1
+        os.remove(path)
+    return tried
+
+
 @suite.shares
 def languages(trial):
     """The probes of all languages."""
@@ -769,6 +959,12 @@ def readers(trial):
     lines = "".join(" ".join(map(str, numbers)) + "\n" for numbers in tried)
     for numbers, answer in BY_HAND:
         trial.check("by hand", answer == reading_at(*numbers), f"{numbers}: {answer} by hand, and {reading_at(*numbers)}")
+    for clock, changed, shown, *answers in SLOTS_BY_HAND:
+        slot = [changed.get(place, word) for place, word in enumerate(GOOD_SLOT)]
+        model = [said_of_slot(clock, 1, slot, is_known, {MONOTONIC: shown[0], RAW: shown[1]}) for is_known in (True, False)]
+        trial.check("by hand", answers == model, f"{clock} {changed} {shown}: {answers} by hand, and {model}")
+    with open("/proc/sys/kernel/random/boot_id", "rb") as file:
+        boot = file.read(36)
     for name, words in trial.shared:
         before = len(trial.result.wrong)
         answers = run([*words, "vectors"], lines.encode(), 300).said.splitlines()
@@ -778,7 +974,8 @@ def readers(trial):
         with Reader(words) as reader:
             path = os.path.join(trial.room, "time")
             files_tried, lengths = try_files(trial, name, words, reader, path), try_shrinking(trial, name, reader, path)
-        trial.note(f"{name}: {len(wanted)} vectors, {files_tried} files, each mapped and not, {lengths} shorter ones, "
+            slots_tried = try_slots(trial, name, reader, path, boot)
+        trial.note(f"{name}: {len(wanted)} vectors, {slots_tried} slots, {files_tried} files, each mapped and not, {lengths} shorter ones, "
                    f"{len(trial.result.wrong) - before} wrong")
 
 
@@ -804,7 +1001,7 @@ def time_namespaces(trial):
         file.write(content)
     os.chmod(path, mode)
     for name, words in trial.shared:
-        for offset, wanted in ([], answer), (["--monotonic", "-1"], "refused 1702"), (["--monotonic", "1000"], "refused 1702"):
+        for offset, wanted in ([], said_by(name, answer)), (["--monotonic", "-1"], "refused 1702"), (["--monotonic", "1000"], "refused 1702"):
             said = run([*apart, *offset, *words, "open", path], seconds=60).said.strip()
             trial.check(name, said == wanted, f"{offset}: {said} in place of {wanted!r}")
         said = run([sys.executable, "-c", SHIFTED, *words, "open", path], seconds=60).said.strip()

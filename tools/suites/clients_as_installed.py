@@ -13,13 +13,12 @@ import shutil
 import socketserver
 import sys
 import threading
-import time
 import typing
 from xml.etree import ElementTree
 
 from harness.program import WARNINGS, in_top, read, read_text, run, write
 from harness.suite import Suite, wrong_in
-from suites.clients import file_of, go_in, has_go, has_tokio, registry_for_cargo
+from suites.clients import MONOTONIC, RAW, clock_shows, file_of, go_in, has_go, has_tokio, registry_for_cargo
 
 suite = Suite(__name__, at_once=4, quick=False, beside_s=13)
 CLIENTS = in_top("clients")
@@ -107,11 +106,16 @@ class StandIn(socketserver.ThreadingTCPServer):
     def __init__(self, room):
         super().__init__(("127.0.0.1", 0), Session)
         self.came, self.file = [], os.path.join(room, "time")
-        self.clock, always = time.clock_gettime_ns(time.CLOCK_MONOTONIC), 2**64 - 1
+        self.clocks, always = {clock: clock_shows(clock) for clock in (RAW, MONOTONIC)}, 2**64 - 1
+        second = (self.clocks[MONOTONIC], LO, LO + WIDTH, 0, always, always)
         with open("/proc/sys/kernel/random/boot_id", "rb") as file:
-            write(self.file, file_of(1, (self.clock, LO, LO + WIDTH, always, always, 7, 1, 0), file.read(36)))
+            write(self.file, file_of(1, (self.clocks[RAW], LO, LO + WIDTH, always, always, 7, 1, 0), file.read(36), RAW, second))
         os.chmod(self.file, 0o644)
         threading.Thread(target=self.serve_forever, args=(0.02,), daemon=True).start()
+
+    def passed(self):
+        """How long it has been there, by the clock that goes faster."""
+        return max(clock_shows(clock) - then for clock, then in self.clocks.items())
 
     def __exit__(self, *words):
         self.shutdown()
@@ -128,7 +132,7 @@ def try_example(trial, what, example, stand_in, words, **how):
     ran = succeeds(trial, what, words, **how)
     if FILE in example.text:
         readings = [(int(earliest), int(latest)) for earliest, latest in re.findall(r"^(\d+) (\d+)$", ran.said, re.MULTILINE)]
-        passed = time.clock_gettime_ns(time.CLOCK_MONOTONIC) - stand_in.clock
+        passed = stand_in.passed()
         is_right = len(readings) == 1 and LO <= readings[0][0] == readings[0][1] - WIDTH <= LO + passed
         trial.check(f"{what}: the reading", is_right, f"{ran.said!r}")
         stamps = [int(stamp) for stamp in re.findall(r"^(\d+)$", ran.said, re.MULTILINE)]
@@ -190,7 +194,7 @@ WORDS = {
     1003: "another commit has this", 1101: "knows no such line", 1102: "more than 64 bytes", 1103: "a later commit has begun",
     1104: "the last commit is not known as released",
     1701: "cannot be opened, mapped or read", 1702: "of another owner, writable by others", 1703: "no daemon wrote what stands there",
-    1704: "during each of the tries", 1708: "past the last reading", 1821: "further ahead than the machine allows",
+    1704: "during each of the tries", 1708: "past the last reading", 1710: "gives nothing by CLOCK_MONOTONIC", 1821: "further ahead than the machine allows",
     1822: "is pending no more", 1823: "an assumption of the service is broken", 1824: "wider than the machine allows",
 }
 # In the words of 903 a lease is over, lost, or not long enough.

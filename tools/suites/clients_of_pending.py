@@ -76,7 +76,7 @@ def try_table(said, shared, path):
     for line in "watermark", "readable 5 10", "begin 0", f"release {stamp} 10":
         yield f"nothing any more: {line}", said(line), "refused 801"
     # The end of time.
-    shared.publish(clock=(clock := time.monotonic_ns()), ahead=MAX - shared.offset - clock)
+    shared.publish(clock=(clock := shared.clock()), ahead=MAX - shared.offset - clock)
     yield "the watermark at the end of time", said("watermark"), str(MAX - 1)
 
 
@@ -131,7 +131,7 @@ def try_scripts(trial, name, words, path):
         return 0
     calls = []
     for number in range(SCRIPTS):
-        with Shared(path) as shared, Reader(words, "pending") as probe:
+        with Shared(path, name) as shared, Reader(words, "pending") as probe:
             shared.publish(early=WIDTH, late=WIDTH)
             calls += [("table", probe.say(f"open {path}")), *a_script(probe.say, shared, random.Random(number))]
     ran = run([trial.options.stamps], "".join(f"{line}\n" for line, _ in calls).encode(), 60)
@@ -149,12 +149,12 @@ def pending_tables(trial):
     """A table of pending commits, call by call, and beside a reader of snapshots."""
     for name, words in trial.shared:
         before, checks, path = len(trial.result.wrong), 0, os.path.join(trial.room, "pending")
-        with Shared(path) as shared, Reader(words, "pending") as probe:
+        with Shared(path, name) as shared, Reader(words, "pending") as probe:
             for what, came, answer in try_table(probe.say, shared, path):
                 checks += 1
                 trial.check(name, came == answer, f"{what}: {came} in place of {answer}")
         checks += try_scripts(trial, name, words, path)
-        with Shared(path) as shared, Reader(words, "pending") as probe:
+        with Shared(path, name) as shared, Reader(words, "pending") as probe:
             shared.publish(early=WIDTH, late=WIDTH)
             trial.equal(name, probe.say(f"open {path}"), "open")
             said = probe.say("threads 4 500")

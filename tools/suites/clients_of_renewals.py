@@ -19,7 +19,8 @@ width of its own, in each language.
     close
         closes the reader: `closed`
 
-The files here have no drift, and an interval as wide as their epoch, so a reading that mixes two of them is seen.
+The files here have no drift, and an interval as wide as their epoch, so a reading that mixes two of them is seen. Those of an even epoch are by
+CLOCK_MONOTONIC_RAW, those of an odd one by CLOCK_MONOTONIC.
 """
 import contextlib
 import os
@@ -27,7 +28,7 @@ import re
 import time
 from concurrent.futures import ThreadPoolExecutor
 
-from suites.clients import NO_LIMIT, Reader, file_of, suite
+from suites.clients import MONOTONIC, NO_LIMIT, RAW, Reader, clock_shows, file_of, suite
 from suites.clients_of_openings import KEEPS_DESCRIPTORS
 from suites.clients_of_waits import wants
 
@@ -47,8 +48,10 @@ class Files:
 
     def content(self, epoch, valid_for_s=0, usable_until=NO_LIMIT):
         """A file of this epoch, which is late after so long."""
-        clock = time.monotonic_ns()
-        return file_of(1, (clock, 10**9, 10**9 + epoch, clock + int(valid_for_s * 1e9), usable_until, epoch, 1, 0), self.boot)
+        clock, span, valid_ns = MONOTONIC if epoch % 2 else RAW, (10**9, 10**9 + epoch), int(valid_for_s * 1e9)
+        now, slewed = clock_shows(clock), clock_shows(MONOTONIC)
+        second = (slewed, *span, 0, slewed + valid_ns, usable_until) if clock == RAW else None
+        return file_of(1, (now, *span, now + valid_ns, usable_until, epoch, 1, 0), self.boot, clock, second)
 
     def put(self, content, mode=0o644, owner=None):
         """Puts a file there."""

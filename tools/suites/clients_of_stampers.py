@@ -27,14 +27,14 @@ import contextlib
 import itertools
 import os
 import random
-import struct
 import subprocess
 import tempfile
 import threading
 import time
 
 from harness.program import run
-from suites.clients import CLIENTS, MAX, NO_LIMIT, SLOT_BYTES, Reader, build_c, file_of, index_of, java_sources, suite
+from suites.clients import (CLIENTS, MAX, MONOTONIC, NO_LIMIT, RAW, SLOT_BYTES, Reader, build_c, clock_shows, file_of, index_of, java_sources,
+                            knows_raw, slot_of, suite)
 
 AHEAD, SECOND = 10_000_000_000, 1_000_000_000
 
@@ -195,10 +195,13 @@ def try_rows(trial, name, words, tried):
 
 
 class Shared:
-    """A file of a daemon that is written in place. The true time is that of CLOCK_MONOTONIC and `offset` more."""
+    """A file of a daemon by CLOCK_MONOTONIC_RAW that is written in place, for one language. The true time is that of the clock which its readers
+    read, and `offset` more. The base by the other clock is none that they may read: it gives no reading yet."""
     offset = 10**18
+    OTHER = (MAX, 1, 2)
 
-    def __init__(self, path):
+    def __init__(self, path, name):
+        self.reads = RAW if knows_raw(name) else MONOTONIC
         with open("/proc/sys/kernel/random/boot_id", "rb") as file:
             self.nothing = file_of(0, None, file.read(36))
         with contextlib.suppress(FileNotFoundError):
@@ -215,7 +218,11 @@ class Shared:
 
     def now(self):
         """The true time."""
-        return time.monotonic_ns() + self.offset
+        return self.clock() + self.offset
+
+    def clock(self):
+        """The clock that is read."""
+        return clock_shows(self.reads)
 
     def clear(self):
         """Nothing was published."""
@@ -223,13 +230,22 @@ class Shared:
         self.count = 0
 
     def publish(self, early=0, late=0, ahead=0, clock=None, until=NO_LIMIT, usable=NO_LIMIT, epoch=7, drift=0):
-        """Publishes the true time, which is `ahead` of what it is else, with these errors."""
-        clock = time.monotonic_ns() if clock is None else clock
+        """Publishes the true time, which is `ahead` of what it is else, with these errors. Where it may be used no more, no base may."""
+        clock = self.clock() if clock is None else clock
         self.count += 1
-        index, middle = index_of(self.count), clock + self.offset + ahead
-        numbers = struct.pack("<8Q", clock, middle - early, middle + late, until, epoch, self.count, drift, usable)
-        os.pwrite(self.file, (index + numbers).ljust(SLOT_BYTES, b"\0"), 64 + SLOT_BYTES * (self.count % 2))
-        os.pwrite(self.file, index, 16)
+        middle = clock + self.offset + ahead
+        span = (clock, middle - early, middle + late)
+        first, second = (span, self.OTHER) if self.reads == RAW else (self.OTHER, span)
+        slot = slot_of(self.count, (*first, until, usable, epoch, self.count, drift), (*second, drift, until, usable))
+        os.pwrite(self.file, slot, 64 + SLOT_BYTES * (self.count % 2))
+        os.pwrite(self.file, index_of(self.count), 16)
+
+    def withdraw(self):
+        """Has the file give nothing by CLOCK_MONOTONIC, until it is published again."""
+        self.count += 1
+        slot = slot_of(self.count, (*self.OTHER, NO_LIMIT, NO_LIMIT, 7, self.count, 0))
+        os.pwrite(self.file, slot, 64 + SLOT_BYTES * (self.count % 2))
+        os.pwrite(self.file, index_of(self.count), 16)
 
 
 def try_refusals(said, shared, path):
@@ -242,9 +258,9 @@ def try_refusals(said, shared, path):
             ("nothing published", shared.clear, "refused 801"),
             ("nothing any more", lambda: shared.publish(usable=0), "refused 801"),
             ("a drift too great", lambda: shared.publish(drift=100_001), "refused 1703"),
-            ("a clock below that of the publication", lambda: shared.publish(clock=time.monotonic_ns() + hour), "refused 802"),
-            ("the same, and not usable", lambda: shared.publish(clock=time.monotonic_ns() + hour, usable=1), "refused 802"),
-            ("not usable any more", lambda: shared.publish(usable=time.monotonic_ns()), "refused 1708")]:
+            ("a clock below that of the publication", lambda: shared.publish(clock=shared.clock() + hour), "refused 802"),
+            ("the same, and not usable", lambda: shared.publish(clock=shared.clock() + hour, usable=1), "refused 802"),
+            ("not usable any more", lambda: shared.publish(usable=shared.clock()), "refused 1708")]:
         change()
         for line in ("stamp 0", f"stamp {NO_LIMIT}", "past 0", f"past {MAX}", "wait 0 1000", f"wait {MAX} 1000"):
             yield f"{what}: {line}", said(line), answer
@@ -317,7 +333,7 @@ def try_limits(said, shared, path):
     yield "what is far ahead", (said(f"left {shared.now() + 60 * SECOND}"), said(f"left {NO_LIMIT}")), ("50000000", "50000000")
     left = int(said(f"left {shared.now() + SECOND // 25}"))
     yield "what is less than 50 ms ahead", left == 0 or left <= SECOND // 25 + 301, True
-    shared.publish(clock=(clock := time.monotonic_ns()), ahead=MAX - shared.offset - clock)
+    shared.publish(clock=(clock := shared.clock()), ahead=MAX - shared.offset - clock)
     yield "the greatest time", (said(f"left {MAX}"), said(f"left {MAX - 1}")), ("1", "0")
     shared.clear()
     yield "nothing published", said("left 0"), "refused 801"
@@ -329,7 +345,7 @@ def stamped_on_grids(said, shared, path):
     for number in range(60):
         at_end, base = number % 4 == 3, shared.now()
         if at_end:  # each reading is of the greatest time alone
-            shared.publish(clock=(clock := time.monotonic_ns()), ahead=MAX - shared.offset - clock)
+            shared.publish(clock=(clock := shared.clock()), ahead=MAX - shared.offset - clock)
             base = MAX
         else:
             shared.publish(early=300, late=500)
@@ -385,7 +401,7 @@ def try_waits(said, shared, path):
     yield "the greatest number", said(f"past {NO_LIMIT}"), "no"
     shared.publish(early=60 * SECOND, late=60 * SECOND)
     yield "within the reading", (said(f"past {now}"), said(f"wait {now} 10")), ("no", "no")
-    shared.publish(clock=(clock := time.monotonic_ns()), ahead=MAX - shared.offset - clock)
+    shared.publish(clock=(clock := shared.clock()), ahead=MAX - shared.offset - clock)
     yield "the greatest time, which is the earliest", (said(f"past {MAX}"), said(f"past {MAX - 1}")), ("no", "yes")
     yield "the same, after a wait", (said(f"wait {MAX} 10"), said(f"wait {MAX - 1} 10")), ("no", "yes")
     shared.publish(early=1000, late=1000)
@@ -409,6 +425,28 @@ def try_waits(said, shared, path):
         yield what, came, answer
 
 
+def try_withdrawals(said, shared, path):
+    """A file that gives nothing by CLOCK_MONOTONIC for a while: who reads that clock alone stamps nothing, and a wait lasts until there is
+    something again, or for as long as it may. What was said, and what has to be."""
+    shared.publish()
+    yield "open", said(f"open {path} 0 {MAX}"), "open"
+    stamp = int(said("stamp 0").split()[1])
+    shared.withdraw()
+    if shared.reads == RAW:  # the base by the raw clock is as it was: none that gives a reading yet
+        for line in "stamp 0", "past 0", "left 0", f"wait {stamp} 100":
+            yield line, said(line), "refused 802"
+        return
+    for line in "stamp 0", "past 0", "left 0":
+        yield line, said(line), "refused 1710"
+    for ms in 0, 30, 120:
+        yield f"nothing for {ms} ms", timed(said, f"wait {stamp} {ms}", ms, ms), "no in time"
+    later = threading.Timer(0.12, shared.publish)
+    later.start()
+    yield "something again", timed(said, f"wait {stamp} 60000", 119, 180), "yes in time"
+    later.join()
+    yield "a stamp behind that", said("stamp 0").split()[0], "stamp"
+
+
 @suite.case()
 def stampers(trial):
     """Stampers by rows, and over files."""
@@ -416,10 +454,11 @@ def stampers(trial):
     for name, words in trial.shared:
         before, checks, path = len(trial.result.wrong), 0, os.path.join(trial.room, "stamped")
         rows = try_rows(trial, name, words, tried)
-        with Shared(path) as shared, Reader(words, "stamper") as probe:
+        with Shared(path, name) as shared, Reader(words, "stamper") as probe:
             late = threading.Timer(120, probe.probe.kill)
             late.start()
-            for what, came, answer in (each for some in (try_refusals, try_stamps, try_limits, try_waits) for each in some(probe.say, shared, path)):
+            each_of = (try_refusals, try_stamps, try_limits, try_waits, try_withdrawals)
+            for what, came, answer in (each for some in each_of for each in some(probe.say, shared, path)):
                 checks += 1
                 trial.check(name, came == answer, f"{what}: {came} in place of {answer}")
             checks += try_grids(trial, name, probe.say, shared, path)
@@ -431,17 +470,17 @@ THREADS, EACH, WIDTH = 8, 10_000, 500_000
 
 
 @contextlib.contextmanager
-def publishing(path):
+def publishing(path, name):
     """Publishes about 10,000 times a second, in life after life, while the block lasts."""
     over = threading.Event()
 
     def publish_on():
         chance = random.Random(3)
         while not over.wait(0.00005):
-            early, late, until = chance.randrange(WIDTH), chance.randrange(WIDTH), time.monotonic_ns() + SECOND
+            early, late, until = chance.randrange(WIDTH), chance.randrange(WIDTH), shared.clock() + SECOND
             shared.publish(early, late, drift=200, epoch=1 + shared.count // 1000, until=until)
 
-    with Shared(path) as shared:
+    with Shared(path, name) as shared:
         shared.publish(WIDTH, WIDTH, drift=200, epoch=1)
         writer = threading.Thread(target=publish_on)
         writer.start()
@@ -481,7 +520,7 @@ def out_of_order(threads):
 
 def race(trial, name, words, path):
     """Threads that stamp by their readings, and threads that stamp from one floor on, until the lease is over."""
-    with publishing(path) as shared:
+    with publishing(path, name) as shared:
         threads, refused, wrong = stamps_of(words, path, (0, MAX), 0, shared)
         trial.equal(name, [*wrong[:5], *out_of_order(threads), *refused.items()], [])
         turns = sorted((stamp, number) for number, thread in enumerate(threads) for stamp in thread)
@@ -526,15 +565,15 @@ def tests_of_java(trial):
 
 @suite.case(root=True, programs=("unshare",))
 def clock_of_readers(trial):
-    """The clock is CLOCK_MONOTONIC, and not one that counts the time in which the host slept: a time namespace sets that one ahead here, and
-    leaves the other as it is."""
+    """The clock is none that counts the time in which the host slept: a time namespace sets that one ahead here, and leaves the others as they
+    are."""
     apart = ["unshare", "--time", "--boottime", "1000", "--fork"]
     if run([*apart, "true"]).status != 0:
         trial.note("the clock is not tried: there are no time namespaces here")
         return
     path = os.path.join(trial.room, "clock")
-    with Shared(path) as shared:
-        for name, words in trial.shared:
+    for name, words in trial.shared:
+        with Shared(path, name) as shared:
             shared.publish()
             begun = shared.now()
             said = run([*apart, *words, "stamper"], f"open {path} 0 {MAX}\nstamp 0\n".encode(), 60).said.split()

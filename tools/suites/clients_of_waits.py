@@ -96,7 +96,7 @@ def wait_for_publication(trial, what, say, shared, after_ms):
 def try_stamper(trial, name, words):
     """The waits of a stamper."""
     path = os.path.join(trial.room, "waits")
-    with Shared(path) as shared, Reader(words, "stamper") as probe:
+    with Shared(path, name) as shared, Reader(words, "stamper") as probe:
         late = threading.Timer(120, probe.probe.kill)
         late.start()
         say = probe.say

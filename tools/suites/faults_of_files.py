@@ -4,6 +4,7 @@ import json
 import os
 import shutil
 import socket
+import struct
 import subprocess
 import time
 from concurrent.futures import ThreadPoolExecutor
@@ -397,19 +398,27 @@ def shared_file_is_shortened(trial):
     yield from node.answers()
 
 
-@suite.case()
-def shared_file_of_version_1(trial):
-    """It is replaced, and stays as it is for who has it open."""
-    node = trial.node(trial.masters(3))
+def shared_by(version, clock, length=320):
+    """A shared file of this boot, version and clock, in which nothing was published."""
     with open("/proc/sys/kernel/random/boot_id", "rb") as file:
-        content = b"TTS1\xc0\0\0\0\1\0\0\0\0\0\0\0" + bytes(8) + file.read(36) + bytes(132)
-    write(node.path("shared"), content)
-    with open(node.path("shared"), "rb") as kept:
-        node.run()
-        node.wait_until_ready()
-        yield from comes_back(trial, node)
-        if kept.read() != content:
-            yield "the file of version 1 was written"
+        head = b"TTS" + version + struct.pack("<IQQ", length, clock, 0) + file.read(36)
+    return head.ljust(length, b"\0")
+
+
+@suite.case()
+def shared_file_of_another_version(trial):
+    """It is replaced, as one by another clock is, and stays as it is for who has it open."""
+    node = trial.node(trial.masters(3))
+    for what, content in [("version 1", shared_by(b"1", 1, 192)), ("version 2", shared_by(b"2", 1)), ("another clock", shared_by(b"3", 1))]:
+        write(node.path("shared"), content)
+        with open(node.path("shared"), "rb") as kept:
+            node.run()
+            node.wait_until_ready()
+            yield from (f"{what}: {fault}" for fault in comes_back(trial, node))
+            if kept.read() != content:
+                yield f"{what}: the file was written"
+        node.kill()
+        os.remove(node.path("status"))
 
 
 @suite.case(root=True, programs=("unshare",))
@@ -623,9 +632,7 @@ def shared_file_prepared_by_another(trial):
     folder = os.path.join(trial.room, "open")
     os.mkdir(folder)
     os.chmod(folder, 0o777)
-    path = os.path.join(folder, "shared")
-    with open("/proc/sys/kernel/random/boot_id", "rb") as file:
-        content = b"TTS2\x40\1\0\0\1\0\0\0\0\0\0\0" + bytes(8) + file.read(36) + bytes(260)
+    path, content = os.path.join(folder, "shared"), shared_by(b"3", 4)
     with as_nobody():
         write(path, content)
     kept = os.open(path, os.O_RDONLY)

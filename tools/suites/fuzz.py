@@ -35,7 +35,7 @@ WORDS = ["send", "answer", "forge", "deliver", "fuse", "read", "arrive", "stamp"
          "drift", "masters", "acts", "honest", "ahead 1", "behind 1", "silent", "garbage", "repeat", "sessions", "base", "rounds", "turns", "uncertainty",
          "lease_lo", "lease_hi", "span", "claim", "left", "right", "below", "above", "commit", "now", "after", "before", "committed", "listen", "state",
          "socket", "shared", "status", "stampers", "poll", "wait", "idle", "floor_ahead", "127.0.0.1:0", "0.0.0.0:1", "1ms", "10s", "1ns", "[[machine]]\n",
-         "[[event]]\n", "[live]\n", "tt-epoch 1 ", "TTP1", "TTP2", "TTS1", "TTS2", '"', "'", '"""', "[", "]", "{", "}", "=", ",", "#", "\n", "\r\n", " ", "\t",
+         "[[event]]\n", "[live]\n", "tt-epoch 1 ", "TTP1", "TTP2", "TTS1", "TTS2", "TTS3", '"', "'", '"""', "[", "]", "{", "}", "=", ",", "#", "\n", "\r\n", " ", "\t",
          "\\u0000", "0x", "1e9", "inf", "nan", "true", "1979-05-27T07:32:00Z", "\ufeff", "é", "%n%s%x", "../", "-", "+", "--"]
 REFUSED = r"refused \d+\n"
 N = r"\d+"

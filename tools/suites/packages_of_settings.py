@@ -84,9 +84,9 @@ SCRIPTS = {
                      "find \"$status\" ${shared:+\"$shared\"} \"$(of state)/epoch\" -newermt \"-$limit seconds\"",
                      "timeout 5 ttd ask \"$address\" now --retry 0 ", "for _ in 1 2 3; do\n", "|| exit 2\n", "RES_OPTIONS='timeout:1 attempts:1' ttd serve --check"],
 }
-# The examples: a drift as docs/OPERATING.md has it for chrony, and all paths in the folders of the units.
+# The examples: all paths are in the folders of the units.
 MACHINE = {
-    "machine": 0, "masters": ["127.0.0.1:5701", "127.0.0.1:5702", "127.0.0.1:5703"], "drift": 700, "listen": "127.0.0.1:5601",
+    "machine": 0, "masters": ["127.0.0.1:5701", "127.0.0.1:5702", "127.0.0.1:5703"], "listen": "127.0.0.1:5601",
     "state": "/var/lib/truetime/a", "shared": "/run/truetime/a/time", "socket": "/run/truetime/a/socket",
     "status": "/run/truetime/a/status.prom", "evidence": "/run/truetime/a/evidence",
 }

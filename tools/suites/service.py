@@ -18,12 +18,13 @@ import contextlib
 import os
 import signal
 import socket
+import struct
 import subprocess
 import time
 from concurrent.futures import ProcessPoolExecutor, ThreadPoolExecutor
 
-from harness.processes import SECOND, WORKERS, truetime
-from harness.program import in_top, run as run_once
+from harness.processes import SECOND, WORKERS, raw_ns, truetime
+from harness.program import in_top, read, run as run_once
 from harness.suite import Suite
 from harness.trouble import reset
 from harness.users import come_in_turn, latest_of, never_read, places_for, reply_to, say_nothing, send_slowly, use
@@ -33,6 +34,12 @@ suite = Suite(__name__)
 CLIENTS, KILLS, IN_TURN = 12, 5, 200
 # 127.0.0.1, as the kernel writes it on a machine whose lowest byte comes first.
 LOOPBACK = "0100007F"
+#: Who reads by CLOCK_MONOTONIC: the second base of a publication.
+BY_MONOTONIC = "Java", "Go"
+#: How many fields of a publication readers show: all but its clock.
+SHOWN = 8
+#: A slot, with its index and both bases, and where the slots and the index are.
+SLOT, SLOTS, INDEX = struct.Struct("<8s15Q"), (64, 192), slice(16, 24)
 
 
 # Readers of the shared file, and the commands that read.
@@ -59,17 +66,30 @@ def compare_readers(trial, readers, machine, end):
 def compare(reader, machine, client):
     """The publications before and after this reader reads, and what is wrong if there was none between them."""
     name, words, gives_publication = reader
-    before, began = client.read(), time.monotonic_ns()
-    said = run([*words, machine.path("shared")])
-    ended, after = time.monotonic_ns(), client.read()
+    path = machine.path("shared")
+    published = (lambda: by_second_base(path)) if name in BY_MONOTONIC else client.read
+    before, began = published(), raw_ns()
+    said = run([*words, path])
+    ended, after = raw_ns(), published()
     fits = is_publication if gives_publication else is_reading
     if any(fits(said, published, began, ended) for published in (before, after)):
         return before, after, []
     return before, after, [f"{name}: {said!r} from {began} to {ended}, between {before} and {after}"]
 
 
+def by_second_base(path):
+    """The last publication of a file, as readers by CLOCK_MONOTONIC have it."""
+    while True:
+        whole = read(path)
+        slots = [SLOT.unpack_from(whole, at) for at in SLOTS]
+        for index, *numbers in slots:
+            if index == whole[INDEX] == read(path)[INDEX]:
+                _, _, _, _, epoch, number, _, _, clock, lo, hi, drift, valid, usable, _ = numbers
+                return truetime.Publication(clock, lo, hi, valid, usable, epoch, number, drift)
+
+
 def is_publication(said, published, *_):
-    return said == " ".join(map(str, ("published", *published)))
+    return said == " ".join(map(str, ("published", *published[:SHOWN])))
 
 
 def is_reading(said, published, began, ended):

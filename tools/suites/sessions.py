@@ -16,11 +16,13 @@ and had no processor; where one was passed, the case is tried once more alone.
 import contextlib
 import itertools
 import os
+import re
 import resource
 import selectors
 import signal
 import socket
 import statistics
+import subprocess
 import time
 
 from harness.processes import SECOND, WORKERS, free_port
@@ -474,6 +476,28 @@ def commits_with_far_floors(trial):
             reset(door.door)
             yield from node.comes_to("commits_waiting", 0, 1)
             yield from node.comes_to("sessions_open", others + 2, 1)
+
+
+@suite.case(programs=("ss",))
+def kernel_memory_of_who_reads_nothing(trial):
+    """The kernel keeps at most 64 KiB of a session over TCP that sends lines and reads no reply, each way together."""
+    node, sessions = trial.running_node(trial.masters(3), workers=2), 40
+    with contextlib.ExitStack() as stack:
+        doors = [stack.enter_context(socket.socket()) for _ in range(sessions)]
+        for door in doors:
+            door.setsockopt(socket.SOL_SOCKET, socket.SO_RCVBUF, 2304)
+            door.connect(node.address)
+            door.setblocking(False)
+        for _ in range(40):
+            for door in doors:
+                with contextlib.suppress(BlockingIOError):
+                    door.send(b"now\n" * 4096)
+            time.sleep(0.02)
+        ran = subprocess.run(["ss", "-tmnH", "state", "established", f"( sport = :{node.address[1]} )"], capture_output=True, text=True, check=True)
+        kept = [int(got) + int(sent) for got, sent in re.findall(r"skmem:\(r(\d+),.*?,w(\d+),", ran.stdout)]
+        trial.note(f"the kernel keeps {max(kept, default=0) // 1024} KiB of a session at most, {sum(kept) // 1024} KiB of {len(kept)}")
+        if len(kept) < sessions or sum(kept) < sessions * 4096 or max(kept) > 65536:
+            yield f"of {len(kept)} sessions it keeps {sum(kept)} bytes, of one {max(kept, default=0)}"
 
 
 @suite.case(quiet=True)

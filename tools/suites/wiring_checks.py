@@ -16,10 +16,10 @@ from harness.wire import REQUEST, answer_to, poll_in, sealed
 
 # The names. One that changes is changed here; that of a setting or of an event also where a scenario gives or awaits it.
 
-SETTINGS = """machine masters faulty workers drift poll wait floor_ahead idle lease_lo lease_hi stampers listen http log on_break max_width state socket
+SETTINGS = """machine masters faulty workers drift clock slew poll wait floor_ahead idle lease_lo lease_hi stampers listen http log on_break max_width state socket
 shared status evidence vmclock keys master""".split()
-OPTIONS = """source listen uncertainty offset act log keys status id name ntp faulty margin every drift max-age ntp-key ntp-keys local
-warn-width""".split()
+OPTIONS = """source listen uncertainty offset act log keys status id name ntp faulty margin every drift max-age ntp-key ntp-keys local phc
+tai-offset warn-width""".split()
 ACTS = "honest ahead behind silent garbage repeat".split()
 
 # The numbers of the status in their order, by the names that the checks use: those before the ones of each source, these, and the others.
@@ -49,7 +49,9 @@ LAST = {
     "rounds_stale": "truetime_rounds_stale_total", "fusions_504": 'truetime_fusions_refused_total{number="504"}',
     "fusions_701": 'truetime_fusions_refused_total{number="701"}', "strangers": "truetime_strangers_total", "breaks": "truetime_assumption_breaks_total",
     "broken_lives": "truetime_broken_lives_total",
-    "slept": "truetime_slept_seconds_total", "sleep_unseen": "truetime_sleep_unseen", "sessions": "truetime_sessions_total", "lines": "truetime_lines_total",
+    "slept": "truetime_slept_seconds_total", "sleep_unseen": "truetime_sleep_unseen",
+    "slewed_rate": "truetime_slewed_clock_rate_ratio", "withdrawn": "truetime_slewed_base_withdrawn",
+    "withdrawals": "truetime_slewed_base_withdrawals_total", "sessions": "truetime_sessions_total", "lines": "truetime_lines_total",
     "lines_refused": "truetime_lines_refused_total", "waiting": "truetime_connections_waiting", "unserved": "truetime_connections_unserved_total",
     "workers": "truetime_workers",
     "busy": "truetime_workers_busy", "sessions_open": "truetime_sessions_open", "commits_waiting": "truetime_commits_waiting",
@@ -88,6 +90,7 @@ EVENTS = {
     "stranger": "warn address", "source_unresolved": "warn source", "source_resolved": "info source address",
     "master_silent": "warn number", "master_answers": "info", "width_above": "warn width_ns limit_ns", "clock_stepped": "error",
     "server_refused": "warn server number", "server_silent": "warn server",
+    "slew_too_fast": "warn rate_ppm slew_ppm", "slew_in_bounds": "info",
 }
 
 # How long something lasts, in nanoseconds, as documents and doc comments say.
@@ -107,12 +110,13 @@ TIMES = {
 # The reply of a server of another host, and the longest sleep before a request to it: they are looked at by root alone.
 TIMES_OF_OTHERS = {"far reply": SECOND, "far look": SECOND}
 
-# The forms of a line. Addresses are the only texts.
+# The forms of a line. Addresses are the only texts, and a rate may be below 0.
+RATE = r"-?[0-9]+\.[0-9]{3}"
 ADDRESS = r"(?:[0-9.]+|\[[0-9a-f:.]+\]):[0-9]+"
 MOMENT = r"[0-9]{4}-[0-9]{2}-[0-9]{2}T[0-9]{2}:[0-9]{2}:[0-9]{2}\.[0-9]{9}Z"
 FORMS = {
-    "text": re.compile(rf"time={MOMENT} level=[a-z]+ event=[a-z_]+( [a-z_]+=[0-9]+| address={ADDRESS})*\n"),
-    "json": re.compile(rf'\{{"time":"{MOMENT}","level":"[a-z]+","event":"[a-z_]+"(,"[a-z_]+":[0-9]+|,"address":"{ADDRESS}")*\}}\n'),
+    "text": re.compile(rf"time={MOMENT} level=[a-z]+ event=[a-z_]+( [a-z_]+=[0-9]+| rate_ppm={RATE}| address={ADDRESS})*\n"),
+    "json": re.compile(rf'\{{"time":"{MOMENT}","level":"[a-z]+","event":"[a-z_]+"(,"[a-z_]+":[0-9]+|,"rate_ppm":{RATE}|,"address":"{ADDRESS}")*\}}\n'),
 }
 
 # The names of all checks that are to be made.

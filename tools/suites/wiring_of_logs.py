@@ -143,38 +143,36 @@ def evidence_that_fails(trial):
 
 @suite.case()
 def sleep_that_is_not_seen(trial):
-    """The uptime cannot be read, then it can, and the host sleeps twice; and then it cannot be read again."""
+    """CLOCK_BOOTTIME cannot be read, then it can, and the host sleeps twice; and then it cannot be read again."""
     spoils, node = Spoils(trial.room), trial.node(trial.scripts(honest), on_break="warn")
-    spoils.tell("no-uptime")
+    spoils.tell("no-boot")
     node.environment = spoils.environment
     node.run()
     trial.logs(node, "sleep_unseen")
     time.sleep(0.5)
     trial.equal("log sleep_unseen", len(node.said("sleep_unseen")), 1)
     trial.numbers(node, sleep_unseen=1, slept=0, breaks=0)
-    trial.equal("log sleep_unseen", len(node.said("sleep_unseen")), 1)
-    trial.numbers(node, sleep_unseen=1, slept=0, breaks=0)
     # It can be read again, and then it cannot. Of one kind a line comes each ten seconds.
-    os.remove(spoils.path("no-uptime"))
+    os.remove(spoils.path("no-boot"))
     trial.numbers(node, sleep_unseen=0, slept=0, breaks=0)
 
     def sleeps(number):
         """The host sleeps for four fifths of a second once more, and the log tells of that alone."""
-        spoils.tell("uptime", str(number * 800_000_000))
+        spoils.tell("boot", str(number * 800_000_000))
         lines = eventually(lambda: len(lines := node.said("host_slept")) == number and lines) or [{}]
-        trial.between("log host_slept", SECOND * 77 // 100, int(lines[-1].get("slept_ns", 0)), SECOND * 80 // 100)
+        trial.between("log host_slept", SECOND * 799 // 1000, int(lines[-1].get("slept_ns", 0)), SECOND * 8 // 10)
 
     sleeps(1)
     time.sleep(10.2)
     sleeps(2)
     trial.equal("log sleep_unseen", len(node.said("sleep_unseen")), 1)
-    spoils.tell("no-uptime")
+    spoils.tell("no-boot")
     trial.check("log sleep_unseen", eventually(lambda: len(node.said("sleep_unseen")) == 2), "it is not said a second time")
-    trial.between("status slept", SECOND * 154 // 100, trial.numbers(node, sleep_unseen=1, breaks=2)["slept"], SECOND * 160 // 100)
-    # It sleeps while nobody sees it: that shows once the uptime can be read again.
-    spoils.tell("uptime", str(3 * 800_000_000))
-    os.remove(spoils.path("no-uptime"))
-    trial.between("status slept", SECOND * 231 // 100, trial.numbers(node, sleep_unseen=0, breaks=3)["slept"], SECOND * 240 // 100)
+    trial.between("status slept", SECOND * 1598 // 1000, trial.numbers(node, sleep_unseen=1, breaks=2)["slept"], SECOND * 16 // 10)
+    # It sleeps while nobody sees it: that shows once the clock can be read again.
+    spoils.tell("boot", str(3 * 800_000_000))
+    os.remove(spoils.path("no-boot"))
+    trial.between("status slept", SECOND * 2397 // 1000, trial.numbers(node, sleep_unseen=0, breaks=3)["slept"], SECOND * 24 // 10)
 
 
 @suite.case()
@@ -223,9 +221,9 @@ def signs_within_the_first_round(trial):
     node.environment = spoils.environment
     node.run()
     eventually(lambda: masters[0].polls, pause_s=0.005)
-    spoils.tell("uptime", str(800_000_000))
+    spoils.tell("boot", str(800_000_000))
     disrupt(path, 2)
-    trial.between("log host_slept", SECOND * 77 // 100, int(trial.logs(node, "host_slept").get("slept_ns", 0)), SECOND * 80 // 100)
+    trial.between("log host_slept", SECOND * 799 // 1000, int(trial.logs(node, "host_slept").get("slept_ns", 0)), SECOND * 8 // 10)
     trial.logs(node, "guest_disrupted")
     trial.numbers(node, breaks=2)
 

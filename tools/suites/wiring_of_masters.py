@@ -10,7 +10,7 @@ from harness.metrics import faults_in
 from harness.processes import SECOND, Process, free_port
 from harness.trouble import Spoils
 from harness.wire import ANSWER_BYTES, ANSWERS, REQUEST, SPAN, Poll, ends_in
-from harness.program import read_text, write
+from harness.program import WARNINGS, compile_c, read_text, write
 from suites.wiring import suite
 from suites.wiring_checks import eventually, put_keys, sealed
 
@@ -187,6 +187,54 @@ def master_without_socket(trial):
     with spoils.spoiled("receive"):
         trial.logs(process, "master_failed")
     trial.check("option listen", eventually(lambda: asked.poll(0.3)[0], 10), "no answer once packets are received again")
+
+
+class OnDevice(Asked):
+    """A client of a master whose hardware clock is a file, which says how far it is ahead of the real-time clock."""
+
+    def __init__(self, trial, name, ahead, tai_offset, uncertainty):
+        self.source, self.nonce, self.path = 2, 0, os.path.join(trial.room, name)
+        self.address = f"127.0.0.1:{free_port(socket.SOCK_DGRAM)}"
+        self.shows(ahead)
+        self.environment = dict(os.environ, LD_PRELOAD=compile_c("device_clock", trial.room, *WARNINGS, "-shared", "-fPIC"))
+        words = ["master", "--source=2", f"--listen={self.address}", f"--phc={self.path}", f"--tai-offset={tai_offset}", f"--uncertainty={uncertainty}"]
+        self.process = trial.keep(Spoiled(trial, self, words, name=f"{name}-master"))
+        self.door = trial.keep(socket.socket(socket.AF_INET, socket.SOCK_DGRAM))
+        self.door.connect(("127.0.0.1", int(self.address.split(":")[1])))
+        trial.logs(self.process, "master_started", source=2)
+
+    def shows(self, ahead):
+        write(self.path, f"{ahead}\n".encode())
+
+
+@suite.case()
+def hardware_clocks(trial):
+    """A master answers what the clock of an open device shows, less what TAI is ahead, and its uncertainty both ways. It is silent while the clock
+    can't be read, and for ever once it was stepped."""
+    uncertainty = SECOND // 10
+    for name, ahead, tai_offset in (("utc", 0, 0), ("tai", 0, 36)):
+        asked = OnDevice(trial, name, ahead, tai_offset, uncertainty)
+        trial.check("option tai-offset", is_span(asked, *asked.poll(), -tai_offset * SECOND, uncertainty), f"another answer by {tai_offset} seconds")
+    asked = OnDevice(trial, "ptp", 37 * SECOND, 37, uncertainty)
+    trial.check("option phc", is_span(asked, *asked.poll(), 0, uncertainty), "another answer")
+    asked.shows("")
+    trial.equal("option phc", asked.poll(0.3)[0], None)
+    trial.logs(asked.process, "master_silent", number=2401)
+    asked.shows(37 * SECOND + uncertainty)
+    trial.check("option phc", is_span(asked, *asked.poll(), uncertainty, uncertainty), "no answer once the clock can be read")
+    for ahead in (38 * SECOND, 37 * SECOND):
+        asked.shows(ahead)
+        trial.equal("option phc", asked.poll(0.3)[0], None)
+    trial.logs(asked.process, "clock_stepped")
+
+
+@suite.case()
+def clocks_of_other_files(trial):
+    """A file that is no clock is opened, and nothing is answered."""
+    asked = Asked(trial, 1, uncertainty=[5], phc=["/dev/null"], tai_offset=[37])
+    trial.logs(asked.process, "master_started")
+    trial.equal("option phc", asked.poll(0.3)[0], None)
+    trial.logs(asked.process, "master_silent", number=2401)
 
 
 def is_answered(asked, number, key, seconds=0.3):

@@ -6,7 +6,7 @@ import time
 
 from harness.metrics import numbers_in
 from harness.ntp import LONG, PACKET, FakeServer, Key, Says, kiss, reply_in, stamp_of
-from harness.processes import SECOND, free_port
+from harness.processes import SECOND, free_port, raw_ns
 from harness.program import read_text, write
 from harness.trouble import Spoils
 from harness.wire import ANSWER_BYTES, REQUEST, SPAN, ends_in
@@ -20,16 +20,21 @@ MIDNIGHT, LATER = 1_798_761_600 * SECOND, 1_800_000_000 * SECOND
 
 
 class Still(Spoils):
-    """A monotonic clock that stands still, and moves where it is told."""
+    """A clock that stands still, and moves where it is told."""
 
     def __init__(self, room):
         super().__init__(room)
-        self.shown_ns = time.monotonic_ns()
+        self.shown_ns = raw_ns()
         self.move(0)
 
     def move(self, by_ns):
         self.shown_ns += by_ns
-        self.tell("course", f"{time.monotonic_ns() - SECOND} {self.shown_ns} -1000000\n")
+        self.tell("course", f"{raw_ns() - SECOND} {self.shown_ns} -1000000\n")
+
+    def ahead(self, by_ns):
+        """CLOCK_MONOTONIC is so far ahead of where this clock would have it, from now on."""
+        since = raw_ns() - SECOND
+        self.tell("slew", f"{since} {since + by_ns} 0\n")
 
     def date(self, nanoseconds):
         """The real-time clock shows this from now on."""
@@ -172,8 +177,8 @@ def eras_of_servers(trial):
 
 @suite.case()
 def ages_of_replies(trial):
-    """A reply asked for a millisecond before it came, and 990 before the poll, at 200 parts per million and with a margin of a microsecond. Where the
-    clock shows less than when it came, nothing is said."""
+    """A reply asked for a millisecond before it came, and 990 before the poll, at 200 parts per million and with a margin of a microsecond; that
+    CLOCK_MONOTONIC is slewed meanwhile changes nothing. Where the clock shows less than when it came, nothing is said."""
     digits = SAID[0][0]
     clock = Still(trial.room)
 
@@ -186,6 +191,7 @@ def ages_of_replies(trial):
     came = (1_795_704_384_753_342_870, 1_795_704_384_754_436_684)
     trial.check("option margin", over.comes_to(came, 1001 * SECOND), f"{over.ends()} as the reply comes, and {came} is wanted")
     server.says = Says(silent=True)
+    clock.ahead(82 * MS)
     aged = (1_795_704_385_742_145_070, 1_795_704_385_743_634_484)
     trial.equal("option drift", over.ends(989 * MS, 3), aged)
     trial.equal("option max-age", over.ends(-989 * MS, 3), came)
@@ -336,11 +342,11 @@ def replies_under_other_keys(trial):
 
 @suite.case()
 def steps_and_slews(trial):
-    """A master over the host's clock answers what that shows, and the uncertainty both ways, cut at 0. Slewing by 500 parts per million and two
-    nanoseconds is no step, one more is, and then it is silent, also where the clock comes back."""
+    """A master over the host's clock answers what that shows, and the uncertainty both ways, cut at 0. A change against CLOCK_MONOTONIC of 500
+    parts per million and two nanoseconds is no step, one more is, and then it is silent, also where the clock comes back."""
     clock = Still(trial.room)
     clock.date(LATER)
-    over, shown = Timed(trial, clock, uncertainty=[500]), LATER
+    over, shown = Timed(trial, clock, uncertainty=[500], drift=[1000]), LATER
     for passed, changed, answers in ((0, 2, True), (SECOND, 500_002, True), (SECOND, -500_002, True), (4 * SECOND, 2_000_002, True),
                                      (SECOND, 500_003, False), (SECOND, -500_003, False)):
         shown += passed + changed
@@ -353,3 +359,22 @@ def steps_and_slews(trial):
     clock.date(3 * SECOND)
     early = Timed(trial, clock, uncertainty=[SECOND], offset=[-2_000_000_007])
     trial.equal("option offset", (early.poll()[0] or b"")[REQUEST.size:], SPAN.pack(0, 2 * SECOND - 7))
+
+
+@suite.case()
+def slews_of_stated_clocks(trial):
+    """A master over the host's clock takes it as an NTP daemon slews it, CLOCK_MONOTONIC alike, by 83,333 parts per million. What it stated is broken by
+    what twice the uncertainty and the drift do not explain, since any poll before; and then it is silent, also where the clock comes back."""
+    clock = Still(trial.room)
+    clock.date(LATER)
+    over, shown, slewed = Timed(trial, clock, uncertainty=[MS], drift=[200]), LATER, 0
+    for passed, changed, answers in ((0, 0, True), (24 * MS, 1_999_992, True), (24 * MS, -1_999_992, True), (SECOND, 2_200_002, True),
+                                     (SECOND, 200_002, True), (SECOND, 200_003, False), (SECOND, -MS, False)):
+        shown, slewed = shown + passed + changed, slewed + changed
+        clock.date(shown)
+        clock.ahead(slewed)
+        clock.move(passed)
+        packet, _, _ = over.poll(3 if answers else 0.3)
+        wanted = over.head() + SPAN.pack(shown - MS, shown + MS) if answers else None
+        trial.check("master unanswered_2408", packet == wanted, f"{packet and packet.hex(' ', 8)} where the clock changed by {changed} ns in {passed}")
+    trial.logs(over.process, "clock_stepped", SOON_S)

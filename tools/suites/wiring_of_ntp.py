@@ -19,7 +19,7 @@ from suites.wiring_of_masters import EPOCH, MACHINE, Asked, Spoiled
 
 OFTEN = "100ms"
 #: What an answer may be wider than it has to be, and how late something may come: the host may be busy.
-SLACK_NS, SOON_S = 100_000_000, 15.0
+SLACK_NS, SOON_S, MS = 100_000_000, 15.0, 1_000_000
 #: Between two polls of those that come all the while.
 PAUSE_S = 0.05
 DAY_S, NOON_S = 86_400, 43_200
@@ -229,9 +229,8 @@ def silent_servers_of_masters(trial):
         trial.check("option ntp", answered >= 199 and last < 0.6, f"a server that is {name}: {answered} of 200 polls are answered, the last after {last:.2f} s")
 
 
-@suite.case()
-def sleep_of_masters(trial):
-    """A master whose host slept drops what its server said, asks it at once, and says so; while the server is silent, so is the master."""
+def sleeps_for(trial, ns):
+    """A master whose host slept for so long drops what its server said, asks it at once, and says so; while the server is silent, so is the master."""
     spoils = Spoils(trial.room)
     server, = servers_of(trial, Says())
     over = Over(trial, [server], every=["60s"])
@@ -239,14 +238,25 @@ def sleep_of_masters(trial):
     process = trial.keep(Spoiled(trial, spoils, over.process.words))
     trial.check("option ntp", over.holds(), "no answer")
     asked = len(server.requests)
-    spoils.tell("uptime", str(800_000_000))
+    spoils.tell("boot", str(ns))
     trial.check("option ntp", over.holds(), "no answer after a sleep")
     # Once, where no reply is late.
     trial.between("requests behind a sleep", asked + 1, len(server.requests), asked + 3)
-    trial.between("log host_slept", SECOND * 77 // 100, int(trial.logs(process, "host_slept").get("slept_ns", 0)), SECOND * 80 // 100)
+    trial.between("log host_slept", ns - MS + 1, int(trial.logs(process, "host_slept").get("slept_ns", 0)), ns)
     server.says = Says(silent=True)
-    spoils.tell("uptime", str(1_600_000_000))
+    spoils.tell("boot", str(2 * ns))
     trial.check("option ntp", over.is_silent(), "it answers by what its server said before a sleep")
+
+
+@suite.case()
+def sleep_of_masters(trial):
+    """For 0.8 seconds."""
+    sleeps_for(trial, 800 * MS)
+
+
+@suite.case()
+def sleep_of_masters_for_a_millisecond(trial):
+    sleeps_for(trial, MS)
 
 
 class Elsewhere(Over):
@@ -275,7 +285,7 @@ def servers_on_other_hosts(trial):
 
     def sleep():
         slept_ms[0] += 800
-        spoils.tell("uptime", str(slept_ms[0] * 1_000_000))
+        spoils.tell("boot", str(slept_ms[0] * 1_000_000))
 
     for _ in range(2):
         asked = len(server.requests)
@@ -316,7 +326,7 @@ def sleep_within_a_request(trial):
 
     def sleep(_=None):
         slept_ms[0] += 800
-        spoils.tell("uptime", str(slept_ms[0] * 1_000_000))
+        spoils.tell("boot", str(slept_ms[0] * 1_000_000))
 
     def sleep_and_reply(request):
         sleep()

@@ -10,7 +10,7 @@ import subprocess
 import time
 from concurrent.futures import ThreadPoolExecutor
 
-from harness.processes import SECOND, free_port, truetime
+from harness.processes import SECOND, free_port, raw_ns, truetime
 from harness.program import read, run, write
 from harness.trouble import NOBODY, honest, late, silent
 from harness.users import is_closed_within, latest_of, never_read, reply_to
@@ -25,7 +25,7 @@ IN_HELP = {
     "age": {"drift": "100000 200"},
     "twin": {"event": "0"},
     "master": {
-        "source": "0 15", "offset": "0", "ntp": "16", "faulty": "0", "margin": "0", "every": "1ms 86400s 64s 1ms", "drift": "100000 200",
+        "source": "0 15", "offset": "0", "tai-offset": "100", "ntp": "16", "faulty": "0", "margin": "0", "every": "1ms 86400s 64s 1ms", "drift": "100000 200",
         "max-age": "1ms 86400s 1024s", "ntp-key": "4294967295", "log": "text",
     },
     "ask": {"retry": "100 9999 50"},
@@ -165,9 +165,9 @@ def floor_ahead(trial):
 def fits(node, session):
     """Whether a reading of the session is that of the publication in the shared file at some moment while it was made, a tenth of a second
     after the publication or more."""
-    before, began = published(node), time.monotonic_ns()
+    before, began = published(node), raw_ns()
     earliest, latest = map(int, reply_to(session, "now").split()[1:])
-    ended, after = time.monotonic_ns(), published(node)
+    ended, after = raw_ns(), published(node)
     elapsed = (earliest + latest - before.lo_ns - before.hi_ns) // 2
     clock = before.clock_ns + elapsed
     if before != after or not began <= clock <= ended or elapsed < SECOND // 10:
@@ -269,6 +269,31 @@ def max_width(trial):
     trial.between("setting max_width", 300 * MILLISECOND, widest, 400 * MILLISECOND)
     said = trial.command("read", node.path("shared"))
     trial.equal("setting max_width", said.answer, ("refused 1708\n", 2))
+
+
+@suite.case()
+def slewing(trial):
+    """CLOCK_MONOTONIC goes faster than `slew` allows, then slower, and between these as it may. By `clock = "monotonic"` nothing is compared."""
+    node, spoils = trial.spoilable(trial.scripts(honest), slew=10_000, poll="400ms", wait="50ms")
+    trial.numbers(node, withdrawn=0, withdrawals=0)
+    for number, (wrong, allowed) in enumerate(((50_000, 2_000), (-50_000, -2_000)), 1):
+        for rate, withdrawn in ((wrong, 1), (allowed, 0)):
+            spoils.slew(rate)
+            trial.numbers(node, withdrawn=withdrawn, withdrawals=number)
+            # The system's own clock is slewed, too, and a look at both clocks may last a while.
+            near = eventually(lambda: abs(status_of(node)["slewed_rate"] - rate * 1000) < 1_000_000)
+            trial.check("status slewed_rate", near, f"it is {status_of(node)['slewed_rate']} at {rate} parts per million")
+    line = trial.logs(node, "slew_too_fast", slew_ppm=10_000)
+    trial.check("setting slew", 10_000 < float(line.get("rate_ppm", 0)) < 51_000, f"{line}")
+    trial.logs(node, "slew_in_bounds")
+    other, spoils = trial.spoilable(trial.scripts(honest), "B", clock="monotonic", slew=0, poll="100ms", wait="50ms", on_break="warn")
+    spoils.slew(50_000)
+    rounds = status_of(other)["rounds"]
+    eventually(lambda: status_of(other)["rounds"] > rounds + 5)
+    status = trial.numbers(other, withdrawn=0, withdrawals=0)
+    trial.equal("setting clock", (status["slewed_rate"], other.said("slew_too_fast")), (None, []))
+    for machine, clock in (node, time.CLOCK_MONOTONIC_RAW), (other, time.CLOCK_MONOTONIC):
+        trial.equal("shared clock_id", published(machine).clock_id, clock)
 
 
 def pause_between(times):
@@ -446,13 +471,13 @@ def outline(trial):
     masters = [f"127.0.0.1:{port}" for port in ports]
     node = trial.node(masters, machine=6, faulty=0, workers=7, drift=321, poll="31ms", wait="32ms", floor_ahead="33ms", idle="34s",
                       lease_lo=35, lease_hi=36, stampers=[38, 39], on_break="warn", max_width="37ms", evidence="evidence", vmclock="vmclock",
-                      http="127.0.0.1:40")
+                      http="127.0.0.1:40", clock="monotonic", slew=41)
     growth = 2 * -(-63_000_000 * 321 // 1_000_000)
     widths = [f"width {trip} {trip + -(-trip * 321 // 1_000_000) + growth}" for trip in (100_000, 1_000_000, 10_000_000, 100_000_000)]
     # A clock that loses 320,896 parts of a billion loses 321 parts of a million of what it shows, and so does one that gains 321,103.
-    numbers = {"faulty": 0, "workers": 7, "drift": 321, "rates": "320896 321103", "poll": 31_000_000, "wait": 32_000_000, "floor_ahead": 33_000_000,
-               "idle": 34 * SECOND, "lease": "35 36", "stampers": "38 39", "on_break": "warn", "max_width": 37_000_000, "growth": growth,
-               "threads": 15, "memory": 4_194_304 + 7 * 131_072, "descriptors": 32 + 64 + 7 * (3 + 320 + 107 + 1)}
+    numbers = {"faulty": 0, "workers": 7, "drift": 321, "rates": "320896 321103", "clock": "monotonic", "slew": 41, "poll": 31_000_000,
+               "wait": 32_000_000, "floor_ahead": 33_000_000, "idle": 34 * SECOND, "lease": "35 36",
+               "stampers": "38 39", "on_break": "warn", "max_width": 37_000_000, "growth": growth, "threads": 15, "memory": 4_194_304 + 7 * 131_072, "descriptors": 32 + 64 + 7 * (3 + 320 + 107 + 1)}
     lines = ["machine 6", f"listen 127.0.0.1:{node.address[1]}", "http 127.0.0.1:40", *(f"master {master}" for master in masters),
              *(f"{name} {value}" for name, value in numbers.items()),
              *(f"{name} {node.path(name)}" for name in ("state", "socket", "shared", "status")), "evidence evidence", "vmclock vmclock",
@@ -604,6 +629,9 @@ REFUSED = [
     ({"workers": "33"}, 1804, "workers: 33 is above 32"),
     ({"workers": "1", "socket": '"socket"'}, 1810, "workers: 1 is below 2, since socket takes one of its own"),
     ({"drift": "100001"}, 1804, "drift: 100001 is above 100000"),
+    ({"clock": '"Raw"'}, 1804, 'clock: "Raw": "raw" or "monotonic"'),
+    ({"clock": "4"}, 1804, 'clock: 4: "raw" or "monotonic", in quotes'),
+    ({"slew": "90001"}, 1804, "slew: 90001 is above 90000"),
     ({"poll": '"0.5s"'}, 1804, 'poll: "0.5s": a whole number and ns, us, ms or s'),
     ({"poll": "5"}, 1804, "poll: 5: a whole number and ns, us, ms or s, in quotes"),
     ({"poll": '"999us"'}, 1804, 'poll: "999us" is below 1ms'),

@@ -10,7 +10,7 @@ import time
 from concurrent.futures import ThreadPoolExecutor
 
 from harness.metrics import faults_in
-from harness.processes import SECOND, free_port, truetime
+from harness.processes import SECOND, free_port, raw_ns, truetime
 from harness.program import read_text, write
 from harness.trouble import disrupt, honest, late, page, reset, silent
 from harness.users import latest_of
@@ -60,7 +60,8 @@ def rounds(trial):
     trial.logs(node, "started", machine=3, epoch=EPOCH + 1, port=node.address[1])
     made = TOO_FEW + NO_POINT + 1 + len(REFUSED)
     eventually(lambda: len(masters[0].polls) > made, 15)
-    nothing = "waiting unserved left_out sessions lines lines_refused breaks slept sleep_unseen busy sessions_open commits_waiting commits_released".split()
+    nothing = """waiting unserved left_out sessions lines lines_refused breaks slept sleep_unseen withdrawn withdrawals busy sessions_open
+              commits_waiting commits_released""".split()
     wanted = {"epoch": EPOCH + 1, "sources": 7, "known": 6, "suspect": [int(source in LIARS) for source in range(7)],
               "answers_refused": sum(map(len, REFUSED)), "fusions_701": TOO_FEW, "fusions_504": NO_POINT, "rounds_stale": TOO_FEW,
               "sharing": 1, "workers": 4, "refused": [0] * 7, "unsent": [0] * 7, **dict.fromkeys(nothing, 0)}
@@ -102,10 +103,10 @@ def rounds(trial):
 @suite.case()
 def first_publication(trial):
     """Its width is that of the shared file, whose other numbers are those of the fusion; the end is in the log and in the file."""
-    before = time.monotonic_ns(), time.time_ns()
+    before = raw_ns(), time.time_ns()
     node = trial.node(trial.scripts(*[honest] * 3), poll="700ms", wait="400ms")
     node.run()
-    shared, after = published(node), (time.monotonic_ns(), time.time_ns())
+    shared, after = published(node), (raw_ns(), time.time_ns())
     trial.equal("shared number", shared.number, 1)
     trial.between("log started", before[1], int(trial.logs(node, "started").get("time", 0)), time.time_ns())
     trial.logs(node, "first_publication", width_ns=shared.hi_ns - shared.lo_ns)
@@ -119,11 +120,11 @@ def first_publication(trial):
         trial.between("shared number", number, later and later.number, number + 1)
         fresh.append(later.valid_until_ns - later.clock_ns)
     trial.between("shared valid_until_ns", periods - SECOND // 10, max(fresh), periods)
-    began = time.monotonic_ns()
+    began = raw_ns()
     for fault in node.ends(5):
         trial.check("log ended", False, fault)
     ended = published(node)
-    trial.between("shared valid_until_ns", began, ended.valid_until_ns, time.monotonic_ns())
+    trial.between("shared valid_until_ns", began, ended.valid_until_ns, raw_ns())
     trial.check("setting socket", not os.path.exists(node.path("socket")), "it is there after the end")
     trial.logs(node, "ended")
 
@@ -173,7 +174,7 @@ def ages(trial):
     for name in ("age", "newest", "needed"):
         trial.check(f"status {name}", is_right, f"the ages of sources, the newest and the needed, and that of the second are {seen[-3:]}")
     # Publications go on, and are fresh for three periods behind the last answer of the second source.
-    last, shown = masters[1].times[3] + time.monotonic_ns() - time.time_ns(), published(node)
+    last, shown = masters[1].times[3] + raw_ns() - time.time_ns(), published(node)
     trial.between("shared valid_until_ns", SECOND * 55 // 100, shown.valid_until_ns - last, SECOND * 11 // 10)
     before = status_of(node)
     time.sleep(1)
@@ -305,7 +306,7 @@ def no_more_fusions(trial):
 
     def look():
         """Whether the age is that by the clock at which the status was written."""
-        written = time.monotonic_ns() - time.time_ns() + os.stat(node.path("status")).st_mtime_ns
+        written = raw_ns() - time.time_ns() + os.stat(node.path("status")).st_mtime_ns
         seen.append((status_of(node)["fusion_age"], written - shared.clock_ns))
         return seen[-1][0] > SECOND and abs(seen[-1][0] - seen[-1][1]) < SECOND // 10
 
@@ -650,10 +651,10 @@ def breaks(trial):
     write(f"{path}.new", page(9))
     os.rename(f"{path}.new", path)
     trial.numbers(node, breaks=3)
-    spoils.tell("uptime", str(800_000_000))
+    spoils.tell("boot", str(800_000_000))
     status = trial.numbers(node, breaks=4)
-    trial.between("status slept", SECOND * 77 // 100, status["slept"], SECOND * 80 // 100)
-    trial.between("log host_slept", SECOND * 77 // 100, int(trial.logs(node, "host_slept").get("slept_ns", 0)), SECOND * 80 // 100)
+    trial.between("status slept", SECOND * 799 // 1000, status["slept"], SECOND * 8 // 10)
+    trial.between("log host_slept", SECOND * 799 // 1000, int(trial.logs(node, "host_slept").get("slept_ns", 0)), SECOND * 8 // 10)
     before = claim_of(evidence)
     masters[0].acts = [lies(5 * SECOND)]
     line = trial.logs(node, "assumption_broken")
@@ -669,5 +670,5 @@ def breaks(trial):
     trial.between("log assumption_broken", 4 * SECOND, lower - last_upper, 5 * SECOND)
     trial.between("log assumption_broken", 2_000_000, upper - lower, SECOND)
     trial.between("log assumption_broken", 2_000_000, last_upper - last_lower, SECOND)
-    trial.between("log assumption_broken", 0, time.monotonic_ns() - int(line.get("clock_ns", 0)), 10 * SECOND)
+    trial.between("log assumption_broken", 0, raw_ns() - int(line.get("clock_ns", 0)), 10 * SECOND)
     trial.check("setting on_break", node.running.poll() is None, "it has ended")
