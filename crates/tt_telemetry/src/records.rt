@@ -519,6 +519,29 @@ fn events_of(
     events
 }
 
+/// What is logged of a round that shows this and came to this outcome after so many publications.
+fn events_after(
+    shown: &Option<Shown>,
+    outcome: &Outcome,
+    published: u64,
+    refused: u64,
+    silent: &[u8],
+    unsent: &[u8],
+) -> Events
+    requires few_silent { length silent.now ≤ max_sources }
+    requires few_unsent { length unsent.now ≤ max_sources }
+    ensures value { events_in result ≡ events_of (suspects_in shown.now) (event_of outcome.now published) (refused_event refused) silent.now unsent.now }
+    ensures in_range { result.count ≤ 50 }
+{
+    events_of(
+        suspects_in(shown),
+        event_of(outcome, published),
+        refused_event(refused),
+        silent,
+        unsent,
+    )
+}
+
 /// All records of a round that comes after the rounds of `totals`: of what the call of the round answered, what it
 /// reported, and the packets that could not be sent. What it published rests on answers as new as the clock reading
 /// `needed`.
@@ -549,10 +572,11 @@ pub fn records_of(
     let sources = terms.config.sources();
     let silent = silent_sources(&report.sources, sources);
     let lost = unsent_sources(unsent, sources);
-    let events = events_of(
-        suspects_in(&shown),
-        event_of(&outcome, totals.published),
-        refused_event(refused),
+    let events = events_after(
+        &shown,
+        &outcome,
+        totals.published,
+        refused,
         silent.as_slice(),
         lost.as_slice(),
     );
