@@ -11,9 +11,9 @@ use Rattle.tt_status.specs.declared.lines.LogEvent.{LogEvent}
 use Rattle.tt_status.specs.declared.lines.LogEvent.TheVariants.{SlewTooFast, SlewInBounds}
 use Rattle.tt_telemetry.specs.Status.{gain_in}
 
--- the look by which readers may go by CLOCK_MONOTONIC, if there was one and that clock is not too fast
-abbrev pub base_by : Option SlewLook → Bool → Option SlewLook
-base_by look is_too_fast = if is_too_fast then None else look
+-- the look by which readers may go by CLOCK_MONOTONIC, if that clock is not too fast
+abbrev pub base_by : SlewLook → Bool → Option SlewLook
+base_by look is_too_fast = if is_too_fast then None else Some look
 
 -- what is shared of a publication: with a second base by this look, or as it is
 abbrev pub shared_by : SharedSpan → Option SlewLook → ℕ → ℕ → SharedSpan

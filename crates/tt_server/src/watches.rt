@@ -46,24 +46,22 @@ impl<'a> HostWatch<'a> {
         }
     }
 
-    /// Notes a look at `CLOCK_MONOTONIC`, by this bound in parts per million, or that there was none. Readers may go by that
-    /// clock only if there was one, and the clock kept its bound since the look before.
-    fn note(&mut self, look: Option<SlewLook>, slew: u32) -> SlewNews
+    /// Notes a look at `CLOCK_MONOTONIC`, by this bound in parts per million. Readers may go by that clock only if it kept its
+    /// bound since the look before.
+    fn note(&mut self, look: SlewLook, slew: u32) -> SlewNews
         ensures base { self.new.base ≡ base_by look self.new.slew.slewing.is_too_fast }
-        ensures noted { IfSome look (λ l. self.new.slew ≡ watch_after self.old.slew l slew) }
+        ensures noted { self.new.slew ≡ watch_after self.old.slew look slew }
     {
-        self.base = None;
-        let Some(look) = look else {
-            return SlewNews::Nothing;
-        };
         let news = self.slew.note(look, slew);
-        if !self.slew.slewing.is_too_fast {
-            self.base = Some(look);
-        }
+        self.base = if self.slew.slewing.is_too_fast {
+            None
+        } else {
+            Some(look)
+        };
         news
     }
 
-    /// Looks how fast `CLOCK_MONOTONIC` goes, if the machine's clock is another.
+    /// Looks how fast `CLOCK_MONOTONIC` goes, if the machine's clock is another. Without a look readers may not go by that clock.
     pub(crate) fn look_at_slewed<R: HostClocks>(
         &mut self,
         rt: &R,
@@ -73,11 +71,14 @@ impl<'a> HostWatch<'a> {
         ensures same { clock ≡ Monotonic → (self.new.base ≡ None) × (self.new.slew ≡ self.old.slew) }
         ensures kept { IfSome self.new.base (λ look. (self.new.slew.last ≡ Some look) × (self.new.slew.slewing.is_too_fast ≡ false)) }
     {
-        let look = match clock {
-            HostClock::Monotonic => None,
-            HostClock::Raw => look_at_slewed(rt),
-        };
-        self.note(look, slew)
+        self.base = None;
+        match clock {
+            HostClock::Monotonic => SlewNews::Nothing,
+            HostClock::Raw => match look_at_slewed(rt) {
+                Some(look) => self.note(look, slew),
+                None => SlewNews::Nothing,
+            },
+        }
     }
 }
 

@@ -5,9 +5,9 @@ use Rattle.tt_server.proofs.rounds.run_daemon.Goals as goal
 
 pub loop-init : goal.loop-init
 loop-init g c = record {
-  calls = rw c.look_at_host.ensures.same (rw c.requires.nothing (no-calls _ _ _ c.now_of-began.ensures.rises));
+  calls = rw c.look_at_slewed.ensures.same (rw c.look_at_host.ensures.same (rw c.requires.nothing (no-calls _ _ _ c.now_of-began.ensures.rises)));
   source = refl;
-  wire = c.look_at_host.ensures.wire;
+  wire = c.look_at_slewed.ensures.wire ∙ c.look_at_host.ensures.wire;
 }
 
 pub loop-preserved : goal.loop-preserved
