@@ -13,8 +13,11 @@ This page, made by `tools/reference` from `packaging/alerts.yml`, says for each 
 
 An alert of the severity `page` says that readings may be wrong, widen, or cannot be had; a `ticket` is all else. \
 n is the number of masters and f that of `faulty`. Names with capital letters alone stand for what the alert fills in. The settings at \
-the top of the rules, as `truetime:round_seconds`, have to be those of your machines. [OPERATING.md](../OPERATING.md), section 3, says \
-how statuses reach Prometheus, [metrics](metrics.md) and [events](events.md) what each name means.
+the top of the rules, as `truetime:round_seconds`, are those of the fleet of [OPERATING.md](../OPERATING.md): change them with yours. Its \
+section 3 says how statuses reach Prometheus, [metrics](metrics.md) and [events](events.md) what each name means.
+
+What may come of one master is a ticket for a fleet, not for each machine. N is then how many machines show it, and the query at the end of \
+what to do lists them. A fleet is the machines of one `job` of Prometheus, and all ask the same masters.
 
 """
 # How the labels and the value of an alert are shown.
@@ -55,7 +58,7 @@ def shown(text):
 def marked(text):
     """A text with the names of alerts as links, and those of metrics and pages as code or links."""
     text = re.sub(r"\b(Truetime\w+)", lambda found: f"[{found[1]}](#{found[1].lower()})", text)
-    text = re.sub(r"(?<!`)\b(truetime_\w+)", r"`\1`", text)
+    text = re.sub(r"`[^`]+`|\btruetime_\w+", lambda found: f"`{found[0].strip('`')}`", text)
     text = text.replace("reference/refusals.md", "[refusals](refusals.md)")
     return re.sub(r"\b(OPERATING)\.md", r"[\1.md](../\1.md)", text)
 

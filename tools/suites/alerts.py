@@ -1,11 +1,12 @@
 """Checks the rules of Prometheus and the dashboard of Grafana in packaging/.
 
-- promtool takes the rules, and packaging/alerts_test.yml says of each alert when it fires and when not. The settings at their top are the
-  defaults of docs/reference/settings.md, and those that stand there in their place are followed.
+- promtool takes the rules, and packaging/alerts_test.yml says of each alert when it fires and when not. The settings at their top are those
+  of the fleet of docs/OPERATING.md, where it has none the defaults of docs/reference/settings.md; those that stand there in their place are
+  followed.
 - Each metric that rules or dashboard name, with its labels, is in the status of a machine that runs. Each alert says what to do, and where
   docs/reference/alerts.md has it.
 - By the statuses of a machine that runs nothing fires; once three of its five masters are cut, and once it is stopped, the alerts that
-  are meant for that do.
+  are meant for that do. By those of two machines a master that lies is one ticket, and more than f of them are pages.
 - Each rule and each panel is one that was meant (alerts_of_rules.py, alerts_of_panels.py).
 - promtool takes each expression of the dashboard. No Grafana is here: its JSON is compared with what a dashboard of schema 38 has to have,
   as Grafana's documents of its JSON model say, and was not opened in one.
@@ -16,23 +17,28 @@ import re
 import signal
 import socket
 import time
+import tomllib
 import typing
+from decimal import Decimal
 
 from harness.metrics import read_metrics
 from harness.processes import Process, free_port
 from harness.program import in_top, read_text, run, write
 from harness.suite import Suite, wrong_in
+from lab.documented import one_block, section
 from suites.wiring_checks import eventually
 
 suite = Suite(__name__, at_once=4, longest_s=60, again=1, beside_s=14)
 RULES, TESTS, DASHBOARD = "packaging/alerts.yml", "packaging/alerts_test.yml", "packaging/dashboard.json"
-FIRING = 'count by (alertname, machine, source) (ALERTS{alertstate="firing"})'
+FIRING = 'count by (alertname, job, instance, machine, source) (ALERTS{alertstate="firing"})'
+PAGES = 'count by (alertname, job, instance, machine, source) (ALERTS{alertstate="firing", severity="page"})'
 # Settings that are no defaults, and those by which the machine of this suite runs: a round takes a quarter of a second.
 OTHER = {"truetime:round_seconds": "10", "truetime:drift_ratio": "0.001", "truetime:faulty": "0", "truetime:max_width_seconds": "1",
          "truetime:warn_width_seconds": "0.1"}
-# The alerts that never fire by the defaults: `settings` provokes them.
-UNLIMITED = {"TruetimeWide", "TruetimeMasterWide"}
+# The alert that never fires by the settings at the top: `settings` provokes it.
+UNLIMITED = {"TruetimeMasterWide"}
 POLL, WAIT, ROUND_S = "150ms", "100ms", 0.25
+SECONDS = {"ns": Decimal("1e-9"), "us": Decimal("1e-6"), "ms": Decimal("1e-3"), "s": Decimal(1)}
 
 
 class Alert(typing.NamedTuple):
@@ -44,6 +50,12 @@ class Alert(typing.NamedTuple):
     @property
     def metrics(self):
         return set(re.findall(r"\btruetime_\w+", self.expr))
+
+    @property
+    def counts_by(self):
+        """The labels by which it counts machines, or nothing where it comes for each of them."""
+        counted = re.match(r"count by \(([\w, ]+)\) \(", self.expr)
+        return set(counted[1].split(", ")) if counted else None
 
 
 def settings_in(text):
@@ -77,15 +89,15 @@ def try_rules(trial, what, settings, tests):
     promtool(trial, what, "test", "rules", "tests.yml")
 
 
-def fires(at, *labels):
+def fires(at, *labels, of=FIRING):
     """That these alerts fire at this time, and no other one does."""
-    return {"eval_time": at, "expr": FIRING, "exp_samples": [{"labels": one, "value": 1} for one in labels]}
+    return {"eval_time": at, "expr": of, "exp_samples": [{"labels": one, "value": 1} for one in labels]}
 
 
-def machine(trial):
+def machine(trial, masters=None, name="A"):
     """A machine with five masters, two of which may be faulty, that has written a status; and its masters."""
-    masters = trial.masters(5)
-    node = trial.running_node(masters, poll=POLL, wait=WAIT, shared=f"{trial.room}/time")
+    masters = masters or trial.masters(5)
+    node = trial.running_node(masters, name, poll=POLL, wait=WAIT, shared=f"{trial.room}/time-{name}")
     trial.check("status", eventually(lambda: os.path.exists(node.path("status"))), "none is written")
     return node, masters
 
@@ -124,17 +136,29 @@ def rules(trial):
     trial.note(f"{len(alerts)} alerts; {len(trial.result.wrong)} wrong")
 
 
+def in_seconds(text):
+    """A length of time of a configuration; without one there is no limit."""
+    found = re.fullmatch(r"(\d+)(ns|us|ms|s)", text)
+    return Decimal(found[1]) * SECONDS[found[2]] if found else Decimal("Inf")
+
+
+def settings_in_recipe():
+    """The settings of the fleet of docs/OPERATING.md, by the names that they have in the rules."""
+    rows = re.findall(r"^\| `(\w+)` \|[^|]*\|[^|]*\| (.*?) \|", read_text("docs/reference/settings.md"), re.MULTILINE)
+    given = {name: default.strip('`"') for name, default in rows} | tomllib.loads(one_block(section(), "machine = 0\n"))
+    warned = re.search(r"--warn-width[ =](\d+)", one_block(section(), "SOURCE=0\n"))
+    return {"truetime:round_seconds": in_seconds(given["poll"]) + in_seconds(given["wait"]),
+            "truetime:drift_ratio": Decimal(given["drift"]) / 10**6, "truetime:faulty": Decimal(given["faulty"]),
+            "truetime:max_width_seconds": in_seconds(given["max_width"]),
+            "truetime:warn_width_seconds": in_seconds(f"{warned[1]}ns" if warned else "none")}
+
+
 @suite.case(programs=("promtool",))
 def settings(trial):
-    """Other settings at the top of the rules, in which each has its effect. Those that stand there are the defaults."""
+    """Other settings at the top of the rules, in which each has its effect. Those that stand there are those of docs/OPERATING.md."""
     trial.check("default of --warn-width", "[--warn-width NS]" in read_text("docs/reference/commands.md"), "there is no such option")
-    listed = read_text("docs/reference/settings.md")
-    for name, default in ("poll", '`"1s"`'), ("wait", '`"250ms"`'), ("drift", "200"), ("max_width", "no limit"):
-        found = re.search(rf"^\| `{name}` \|[^|]*\|[^|]*\| {re.escape(default)} \|", listed, re.MULTILINE)
-        trial.check(f"default of {name}", found, f"it is {default} in {RULES}, and another one in docs/reference/settings.md")
-    defaults = {"truetime:round_seconds": "1.25", "truetime:drift_ratio": "0.0002", "truetime:faulty": "1", "truetime:max_width_seconds": "Inf",
-                "truetime:warn_width_seconds": "Inf"}
-    trial.equal("defaults", settings_in(read_text(RULES)), defaults)
+    shipped = {name: Decimal(value) for name, value in settings_in(read_text(RULES)).items()}
+    trial.equal(f"settings of {RULES} and of docs/OPERATING.md", shipped, settings_in_recipe())
     try_rules(trial, "other settings", OTHER, [{"interval": "15s", "input_series": [
         {"series": 'truetime_width_seconds{machine="0"}', "values": "0.5x40 0.51x40"},
         {"series": 'truetime_master_width_seconds{source="1"}', "values": "0.1x40 0.11x40"},
@@ -143,37 +167,67 @@ def settings(trial):
         {"series": 'truetime_source_clock_rate_error_ratio{machine="0",source="1"}', "values": "0.001x80"},
     ], "promql_expr_test": [fires("10m"), fires("15m", '{alertname="TruetimeWide",machine="0"}', '{alertname="TruetimeFusionOld",machine="0"}',
                                                 '{alertname="TruetimeClockRate",machine="0"}',
-                                                '{alertname="TruetimeSourceRate",machine="0",source="1"}',
+                                                '{alertname="TruetimeSourceRate",source="1"}',
                                                 '{alertname="TruetimeMasterWide",source="1"}')]}])
 
 
 def sample(node, series, at_s):
-    """Appends what its status shows, as the collector would hand it on at this time."""
+    """Appends what its status shows, as the collector of its host, which has its name, would hand it on at this time."""
     numbers = [one for metric in read_metrics(read_text(node.path("status")))[0].values() for one in metric.samples]
     age_s = time.time() - os.stat(node.path("status")).st_mtime
     numbers.append(("node_textfile_mtime_seconds", {"file": "/run/truetime/a/status.prom"}, f"{at_s - age_s:f}"))
     for name, labels, value in numbers:
-        listed = ",".join(f'{label}="{given}"' for label, given in labels.items())
+        listed = ",".join(f'{label}="{given}"' for label, given in {"job": "db", "instance": node.name, **labels}.items())
         series.setdefault(f"{name}{{{listed}}}", []).append("NaN" if value is None else str(value))
+
+
+def watch(trial, nodes, phases, tests):
+    """Samples of machines, one of promtool's 15 seconds in each round; before some of them something is done. These tests hold of them."""
+    series = {}
+    for turn in range(54):
+        phases.get(turn, list)()
+        time.sleep(ROUND_S)
+        for node in nodes:
+            sample(node, series, turn * 15)
+    trial.equal("samples", {len(values) for values in series.values()}, {54})
+    try_rules(trial, "rules", {"truetime:round_seconds": str(ROUND_S), "truetime:max_width_seconds": "Inf"}, [{
+        "interval": "15s", "input_series": [{"series": name, "values": " ".join(values)} for name, values in series.items()],
+        "promql_expr_test": tests}])
+
+
+def of_machine(name, host="A"):
+    """An alert of the machine on this host."""
+    return f'{{alertname="{name}",job="db",instance="{host}",machine="0"}}'
+
+
+def of_source(name, source):
+    """An alert of a source, which is one for all machines."""
+    return f'{{alertname="{name}",job="db",source="{source}"}}'
 
 
 @suite.case(programs=("promtool",))
 def cut(trial):
-    """Three of five masters are cut, and then the machine is stopped. A status of each round is a sample of promtool's 15 seconds."""
+    """Three of five masters are cut, and then the machine is stopped."""
     node, masters = machine(trial)
-    phases, series = {12: lambda: [master.kill() for master in masters[:3]], 36: lambda: node.running.send_signal(signal.SIGSTOP)}, {}
-    for turn in range(54):
-        phases.get(turn, list)()
-        time.sleep(ROUND_S)
-        sample(node, series, turn * 15)
-    wanted = ['{alertname="TruetimeSourcesOld",machine="0"}', '{alertname="TruetimeRoundsStale",machine="0"}',
-              *('{alertname="TruetimeSourceOld",machine="0",source="%d"}' % source for source in range(3))]
-    try_rules(trial, "three masters cut", {"truetime:round_seconds": str(ROUND_S)}, [{
-        "interval": "15s", "input_series": [{"series": name, "values": " ".join(values)} for name, values in series.items()],
-        "promql_expr_test": [fires(f"{11 * 15}s"), fires(f"{35 * 15}s", *wanted), fires(f"{53 * 15}s", '{alertname="TruetimeStatusOld"}', *wanted)]}])
-    trial.equal("samples", {len(values) for values in series.values()}, {54})
+    wanted = [of_machine("TruetimeSourcesOld"), of_machine("TruetimeRoundsStale"), *(of_source("TruetimeSourceOld", source) for source in range(3))]
+    watch(trial, [node], {12: lambda: [master.kill() for master in masters[:3]], 36: lambda: node.running.send_signal(signal.SIGSTOP)}, [
+        fires(f"{11 * 15}s"), fires(f"{35 * 15}s", *wanted),
+        fires(f"{53 * 15}s", '{alertname="TruetimeStatusOld",job="db",instance="A"}', *wanted)])
     trial.note(f"{len(wanted)} alerts once three of five masters are cut, one more once the machine stands, none before; "
                f"{len(trial.result.wrong)} wrong")
+
+
+@suite.case(programs=("promtool",))
+def liars(trial):
+    """Of five masters of two machines two are seconds off, which is a ticket for each of these masters; with a third one each machine pages."""
+    one, masters = machine(trial)
+    nodes = [one, machine(trial, masters, "B")[0]]
+    off = [lambda master=master, seconds=seconds: master.restart_with(seconds * 10**9) for master, seconds in zip(masters, (10, -10, 20))]
+    pages = [of_machine(name, host) for name in ("TruetimeFusionOld", "TruetimeNoTimePossible") for host in "AB"]
+    watch(trial, nodes, {12: lambda: [lie() for lie in off[:2]], 36: off[2]}, [
+        fires(f"{11 * 15}s"), fires(f"{35 * 15}s", *(of_source("TruetimeSourceSuspect", source) for source in range(2))),
+        fires(f"{53 * 15}s", *pages, of=PAGES)])
+    trial.note(f"two of five masters lie to two machines: two tickets, no page; three: {len(pages)} pages; {len(trial.result.wrong)} wrong")
 
 
 # Metrics.
@@ -187,8 +241,9 @@ def metrics(trial):
         trial.check(alert.name, alert.metrics or "node_textfile_mtime_seconds" in alert.expr, "no metric of the status")
         trial.equal(f"{alert.name}: metrics that no status has", alert.metrics - known.keys(), set())
         labels = set.intersection(*(known[name] for name in alert.metrics & known.keys())) if alert.metrics else {"file"}
+        trial.equal(f"{alert.name}: labels to count by that are not there", (alert.counts_by or set()) - labels - {"job"}, set())
         named = set(re.findall(r"\$labels\.(\w+)", alert.text))
-        trial.equal(f"{alert.name}: labels that it does not have", named - labels - {"instance"}, set())
+        trial.equal(f"{alert.name}: labels that it does not have", named - (alert.counts_by or labels | {"instance"}), set())
         trial.check(alert.name, f"\n## {alert.name}\n" in runbooks, "docs/reference/alerts.md does not have it")
         trial.equal(f"{alert.name}: metrics in its words", set(re.findall(r"\btruetime_\w+", alert.text)) - known.keys(), set())
     dashboard = json.loads(read_text(DASHBOARD))

@@ -23,6 +23,11 @@ def against_hour(now, before, more):
     return f"{now} > {more} + 2 * {before}"
 
 
+def machines(expr, *labels):
+    """How many machines of a fleet show this."""
+    return f"count by ({', '.join(('job', *labels))}) ({expr})"
+
+
 MEAN = "rate(truetime_commit_wait_seconds_sum[{0}]) / rate(truetime_commit_wait_seconds_count[{0}])"
 PAST_DRIFT = "abs(truetime_source_clock_rate_ratio) - truetime_source_clock_rate_error_ratio > scalar(truetime:drift_ratio)"
 WANTED = {
@@ -34,18 +39,19 @@ WANTED = {
     "TruetimeEpochFell": ("resets(truetime_epoch[1d]) > 0", AT_ONCE, PAGE),
     "TruetimeSourcesOld": (not_within("needed_answer_age_seconds"), "30s", PAGE),
     "TruetimeRoundsStale": (risen("rounds_stale_total"), AT_ONCE, TICKET),
-    "TruetimeSourceOld": (not_within("source_answer_age_seconds"), "1m", TICKET),
+    "TruetimeSourceOld": (machines(not_within("source_answer_age_seconds"), "source"), "1m", TICKET),
     "TruetimeClockRate": (f"count without (source) ({PAST_DRIFT}) > scalar(truetime:faulty)", "1m", PAGE),
-    "TruetimeSourceRate": (PAST_DRIFT, "1m", TICKET),
-    "TruetimeSourceSuspect": ("truetime_source_suspect == 1", "1m", TICKET),
+    "TruetimeSourceRate": (machines(f"{PAST_DRIFT} unless on (job, instance, machine, source) truetime_source_suspect == 1", "source"), "1m", TICKET),
+    "TruetimeSourceSuspect": (machines("truetime_source_suspect == 1", "source"), "1m", TICKET),
     "TruetimeNoTimePossible": (risen('fusions_refused_total{number="504"}'), AT_ONCE, PAGE),
     "TruetimeFusionOld": (not_within("fusion_age_seconds"), "1m", PAGE),
     "TruetimeTooFewSources": (risen('fusions_refused_total{number="701"}'), "1m", PAGE),
-    "TruetimeSourceRefused": (risen("source_rounds_refused_total"), AT_ONCE, TICKET),
-    "TruetimeAnswersRefused": (risen("answers_refused_total"), AT_ONCE, TICKET),
-    "TruetimePacketsUnsent": (risen("source_packets_unsent_total"), AT_ONCE, TICKET),
-    "TruetimePacketsUnopened": (risen("source_packets_unopened_total"), AT_ONCE, TICKET),
-    "TruetimeStrangers": (risen("strangers_total"), AT_ONCE, TICKET),
+    "TruetimeSourceRefused": (machines(risen("source_rounds_refused_total"), "source", "number"), AT_ONCE, TICKET),
+    "TruetimeAnswersRefused": (machines(f'{risen("answers_refused_total")} unless on (job, instance, machine) {risen("source_rounds_refused_total")}'),
+                               AT_ONCE, TICKET),
+    "TruetimePacketsUnsent": (machines(risen("source_packets_unsent_total"), "source"), AT_ONCE, TICKET),
+    "TruetimePacketsUnopened": (machines(risen("source_packets_unopened_total"), "source", "number"), AT_ONCE, TICKET),
+    "TruetimeStrangers": (machines(risen("strangers_total")), AT_ONCE, TICKET),
     "TruetimeWide": ("truetime_width_seconds > 0.5 * scalar(truetime:max_width_seconds)", "15s", PAGE),
     "TruetimeMasterSilent": (risen('master_unanswered_total{number=~"24.."}', "2m"), "2m", TICKET),
     "TruetimeMasterWide": ("truetime_master_width_seconds > scalar(truetime:warn_width_seconds)", "1m", TICKET),
@@ -79,12 +85,15 @@ def list_of_rules(trial):
 
 
 # How a label is shown, so that no other one stands in its place.
-PLACES = {"machine": "[Mm]achine %s", "source": "[Ss]ource %s", "instance": "(on|of) %s", "number": r"\(%s\)", "file": "^%s of "}
-# What the words of an alert show; where nothing stands here, the machine and its host.
-OF_MACHINE, OF_SOURCE, OF_MASTER = {"machine", "instance"}, {"machine", "instance", "source"}, {"source", "instance"}
+PLACES = {"machine": "[Mm]achine %s", "source": "[Ss]ource %s", "job": "of job %s", "instance": "(on|of) %s", "number": r"\(%s\)",
+          "file": "^%s of "}
+# What the words of an alert show; where nothing stands here, the machine and its host. Of what comes for a fleet, how many machines show it.
+OF_MACHINE, OF_MASTER, OF_FLEET = {"machine", "instance"}, {"source", "instance"}, {"job", "value"}
+OF_SOURCE = OF_FLEET | {"source"}
 SHOWN = {
     **dict.fromkeys(("TruetimeSourceOld", "TruetimeSourceRate", "TruetimeSourceSuspect", "TruetimePacketsUnsent"), OF_SOURCE),
     "TruetimeSourceRefused": OF_SOURCE | {"number"}, "TruetimePacketsUnopened": OF_SOURCE | {"number"},
+    "TruetimeAnswersRefused": OF_FLEET, "TruetimeStrangers": OF_FLEET,
     "TruetimeStatusOld": {"file", "instance", "duration"}, "TruetimeStatusGone": {"file", "instance"}, "TruetimeRestarted": OF_MACHINE | {"value"},
     "TruetimeWide": OF_MACHINE | {"duration"}, "TruetimeMasterSilent": OF_MASTER | {"number"}, "TruetimeMasterWide": OF_MASTER | {"duration"},
     "TruetimeSessionsFull": OF_MACHINE | {"value"}, "TruetimeCommitWait": OF_MACHINE | {"duration"},
@@ -94,7 +103,10 @@ VALUES = {"$value": "value", "$value | humanizeDuration": "duration"}
 
 @suite.case()
 def words_of_alerts(trial):
-    """Each alert names its place among the runbooks, says what to do, and shows whose it is, each label where it belongs, and how much."""
+    """Each alert names its place among the runbooks, says what to do, and shows whose it is, each label where it belongs, and how much.
+
+    One that counts machines has the query that lists them.
+    """
     for alert in alerts_in(read_text(RULES)):
         notes = dict(re.findall(r'^ +(\w+): "(.*)"$', alert.text, re.MULTILINE))
         trial.equal(f"{alert.name}: annotations", list(notes), ["runbook", "summary", "description"])
@@ -107,3 +119,8 @@ def words_of_alerts(trial):
         for label in PLACES.keys() & shown:
             place = PLACES[label] % re.escape(f"{{{{ $labels.{label} }}}}")
             trial.check(f"{alert.name}: {label}", re.search(place, summary), f"it has no {place!r}: {summary}")
+        if alert.counts_by:
+            query = f"`{alert.expr.partition(') (')[2][:-1]}` lists the machines."
+            trial.check(f"{alert.name}: query", notes["description"].endswith(query), f"it does not end with {query}")
+            trial.check(f"{alert.name}: machines", re.search(r"\$value \}\} of (its|the) machines", summary), f"it has no number of them: {summary}")
+            trial.check(f"{alert.name}: severity", "severity: ticket" in alert.text, "what one machine shows is a page for all")
