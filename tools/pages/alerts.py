@@ -16,8 +16,8 @@ n is the number of masters and f that of `faulty`. Names with capital letters al
 the top of the rules, as `truetime:round_seconds`, are those of the fleet of [OPERATING.md](../OPERATING.md): change them with yours. Its \
 section 3 says how statuses reach Prometheus, [metrics](metrics.md) and [events](events.md) what each name means.
 
-What may come of one master is a ticket for a fleet, not for each machine. N is then how many machines show it, and the query at the end of \
-what to do lists them. A fleet is the machines of one `job` of Prometheus, and all ask the same masters.
+What machines see of one master is a ticket for each fleet, not for each machine. N is then how many of them see it, and the query at the \
+end of what to do lists them. A fleet is the machines of one `job` of Prometheus, which ask the same masters.
 
 """
 # How the labels and the value of an alert are shown.

@@ -130,7 +130,7 @@ def rules(trial):
     trial.equal("names", len({alert.name for alert in alerts}), len(alerts))
     promtool(trial, "test rules", "test", "rules", in_top(TESTS))
     for alert in alerts:
-        is_tested = f'exp_samples: [{{labels: \'{{alertname="{alert.name}"' in tests or alert.name in UNLIMITED
+        is_tested = f'{{labels: \'{{alertname="{alert.name}"' in tests or alert.name in UNLIMITED
         trial.check(alert.name, is_tested, f"{TESTS} never has it fire")
         trial.check(alert.name, re.search(r"severity: (page|ticket)\}", alert.text) and "summary: " in alert.text, "no severity or no summary")
     trial.note(f"{len(alerts)} alerts; {len(trial.result.wrong)} wrong")
@@ -157,8 +157,10 @@ def settings_in_recipe():
 def settings(trial):
     """Other settings at the top of the rules, in which each has its effect. Those that stand there are those of docs/OPERATING.md."""
     trial.check("default of --warn-width", "[--warn-width NS]" in read_text("docs/reference/commands.md"), "there is no such option")
-    shipped = {name: Decimal(value) for name, value in settings_in(read_text(RULES)).items()}
-    trial.equal(f"settings of {RULES} and of docs/OPERATING.md", shipped, settings_in_recipe())
+    shipped, recipe = settings_in(read_text(RULES)), settings_in_recipe()
+    trial.equal(f"settings of {RULES}", shipped.keys(), recipe.keys())
+    for name, wanted in recipe.items():
+        trial.equal(f"{name}, and what docs/OPERATING.md sets", Decimal(shipped.get(name, "nan")), wanted)
     try_rules(trial, "other settings", OTHER, [{"interval": "15s", "input_series": [
         {"series": 'truetime_width_seconds{machine="0"}', "values": "0.5x40 0.51x40"},
         {"series": 'truetime_master_width_seconds{source="1"}', "values": "0.1x40 0.11x40"},

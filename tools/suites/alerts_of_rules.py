@@ -4,7 +4,8 @@ import re
 from harness.program import read_text
 from suites.alerts import RULES, alerts_in, settings_in, suite
 
-STATUS = '{file=~".*truetime.*[.]prom"}'
+MACHINES = 'node_textfile_mtime_seconds{file=~".*truetime.*[.]prom", file!~".*truetime-master.*"}'
+MASTERS = 'node_textfile_mtime_seconds{file=~".*truetime-master.*[.]prom"}'
 PAGE, TICKET, AT_ONCE = "page", "ticket", ""
 
 
@@ -16,6 +17,16 @@ def risen(metric, in_time="5m"):
 def not_within(metric, rounds=3):
     """That an age is above so many rounds, or none."""
     return f"truetime_{metric} unless truetime_{metric} <= {rounds} * scalar(truetime:round_seconds)"
+
+
+def unwritten(files):
+    """That these files are older than four rounds."""
+    return f"timestamp({files}) - node_textfile_mtime_seconds > 4 * scalar(truetime:round_seconds)"
+
+
+def gone(files):
+    """That these files were there within a day, and are not now."""
+    return f"last_over_time({files}[1d]) unless node_textfile_mtime_seconds"
 
 
 def against_hour(now, before, more):
@@ -31,9 +42,9 @@ def machines(expr, *labels):
 MEAN = "rate(truetime_commit_wait_seconds_sum[{0}]) / rate(truetime_commit_wait_seconds_count[{0}])"
 PAST_DRIFT = "abs(truetime_source_clock_rate_ratio) - truetime_source_clock_rate_error_ratio > scalar(truetime:drift_ratio)"
 WANTED = {
-    "TruetimeStatusOld": (f"timestamp(node_textfile_mtime_seconds{STATUS}) - node_textfile_mtime_seconds > 4 * scalar(truetime:round_seconds)",
-                          "1m", PAGE),
-    "TruetimeStatusGone": (f"last_over_time(node_textfile_mtime_seconds{STATUS}[1d]) unless node_textfile_mtime_seconds", "1m", PAGE),
+    "TruetimeStatusOld": (unwritten(MACHINES), "1m", PAGE),
+    "TruetimeStatusGone": (gone(MACHINES), "1m", PAGE),
+    "TruetimeMasterStatusOld": (f"{unwritten(MASTERS)} or {gone(MASTERS)}", "1m", TICKET),
     "TruetimeAssumptionBroken": (f'{risen("broken_lives_total", "15m")} or {risen("assumption_breaks_total", "15m")}', AT_ONCE, PAGE),
     "TruetimeRestarted": ("changes(truetime_epoch[15m]) > 0", AT_ONCE, TICKET),
     "TruetimeEpochFell": ("resets(truetime_epoch[1d]) > 0", AT_ONCE, PAGE),
@@ -94,7 +105,8 @@ SHOWN = {
     **dict.fromkeys(("TruetimeSourceOld", "TruetimeSourceRate", "TruetimeSourceSuspect", "TruetimePacketsUnsent"), OF_SOURCE),
     "TruetimeSourceRefused": OF_SOURCE | {"number"}, "TruetimePacketsUnopened": OF_SOURCE | {"number"},
     "TruetimeAnswersRefused": OF_FLEET, "TruetimeStrangers": OF_FLEET,
-    "TruetimeStatusOld": {"file", "instance", "duration"}, "TruetimeStatusGone": {"file", "instance"}, "TruetimeRestarted": OF_MACHINE | {"value"},
+    "TruetimeStatusOld": {"file", "instance", "duration"}, "TruetimeStatusGone": {"file", "instance"},
+    "TruetimeMasterStatusOld": {"file", "instance"}, "TruetimeRestarted": OF_MACHINE | {"value"},
     "TruetimeWide": OF_MACHINE | {"duration"}, "TruetimeMasterSilent": OF_MASTER | {"number"}, "TruetimeMasterWide": OF_MASTER | {"duration"},
     "TruetimeSessionsFull": OF_MACHINE | {"value"}, "TruetimeCommitWait": OF_MACHINE | {"duration"},
 }
