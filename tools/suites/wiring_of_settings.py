@@ -276,7 +276,7 @@ def slewing(trial):
     """CLOCK_MONOTONIC goes faster than `slew` allows, then slower, and between these as it may. By `clock = "monotonic"` nothing is compared."""
     node, spoils = trial.spoilable(trial.scripts(honest), slew=10_000, poll="400ms", wait="50ms")
     trial.numbers(node, withdrawn=0, withdrawals=0)
-    for number, (wrong, allowed) in enumerate(((50_000, 2_000), (-50_000, -2_000)), 1):
+    for number, (wrong, allowed) in enumerate(((15_000, 7_000), (-15_000, -7_000)), 1):
         for rate, withdrawn in ((wrong, 1), (allowed, 0)):
             spoils.slew(rate)
             trial.numbers(node, withdrawn=withdrawn, withdrawals=number)
@@ -284,7 +284,7 @@ def slewing(trial):
             near = eventually(lambda: abs(status_of(node)["slewed_rate"] - rate * 1000) < 1_000_000)
             trial.check("status slewed_rate", near, f"it is {status_of(node)['slewed_rate']} at {rate} parts per million")
     line = trial.logs(node, "slew_too_fast", slew_ppm=10_000)
-    trial.check("setting slew", 10_000 < float(line.get("rate_ppm", 0)) < 51_000, f"{line}")
+    trial.check("setting slew", 10_000 < float(line.get("rate_ppm", 0)) < 16_000, f"{line}")
     trial.logs(node, "slew_in_bounds")
     other, spoils = trial.spoilable(trial.scripts(honest), "B", clock="monotonic", slew=0, poll="100ms", wait="50ms", on_break="warn")
     spoils.slew(50_000)
