@@ -19,7 +19,7 @@ fn nanos_of(elapsed: Duration) -> Option<u64>
     if time <= MAX_TIME { Some(time) } else { None }
 }
 
-/// A time of at most [`MAX_TIME`], or None. It is the host's monotonic clock now, in nanoseconds, of which no clause
+/// A time of at most [`MAX_TIME`], or None. It is the handle's monotonic clock now, in nanoseconds, of which no clause
 /// speaks. None if that can't be read, or shows a time above.
 pub fn reading_of<R: SystemClock>(rt: &R) -> Option<u64>
     ensures in_time { IfSome result (λ time. time ≤ max_time) }
@@ -30,9 +30,10 @@ pub fn reading_of<R: SystemClock>(rt: &R) -> Option<u64>
     }
 }
 
-/// The monotonic clock of the host (`CLOCK_MONOTONIC`), in nanoseconds since an arbitrary start. The daemon, the workers
-/// and the readers of a shared file use it. A read fails if the system's clock can't be read, if it shows a time above
-/// [`MAX_TIME`], or if it shows a time below the last one. So no reading is below one before it.
+/// The machine's clock, in nanoseconds since an arbitrary start: the monotonic clock of the handle, which `tt_host::ByClock`
+/// makes the one that the settings name. The daemon, the workers and the readers of a shared file use it. A read fails if the
+/// system's clock can't be read, if it shows a time above [`MAX_TIME`], or if it shows a time below the last one. So no reading
+/// is below one before it.
 ///
 /// Nothing else is claimed of what the system's clock shows. In contracts the clock is its last reading and its
 /// failures.
