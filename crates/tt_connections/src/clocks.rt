@@ -1,38 +1,27 @@
 //! The clock of a machine.
 
 ghost use Rattle.std.specs.Prelude.{◌≡◌, ◌≤◌, IfSome};
-ghost use Rattle.std.specs.Duration.{as_nanos};
 ghost use Rattle.tt_span.specs.Time.{max_time};
 
 use std::marker::Model;
-use std::time::{Clock as SystemClock, Duration};
+use std::time::Clock as SystemClock;
+use tt_host::time_after_zero;
 use tt_publish::{Clock, ClockFault};
-use tt_span::MAX_TIME;
 
-/// A duration in nanoseconds. None if it is above [`MAX_TIME`].
-fn nanos_of(elapsed: Duration) -> Option<u64>
-    ensures shown { IfSome result (λ time. (time ≡ as_nanos elapsed) × (time ≤ max_time)) }
-{
-    let Ok(time) = u64::try_from(elapsed.as_nanos()) else {
-        return None;
-    };
-    if time <= MAX_TIME { Some(time) } else { None }
-}
-
-/// A time of at most [`MAX_TIME`], or None. It is the handle's monotonic clock now, in nanoseconds, of which no clause
+/// A time of at most `MAX_TIME`, or None. It is the handle's monotonic clock now, in nanoseconds, of which no clause
 /// speaks. None if that can't be read, or shows a time above.
 pub fn reading_of<R: SystemClock>(rt: &R) -> Option<u64>
     ensures in_time { IfSome result (λ time. time ≤ max_time) }
 {
     match rt.monotonic() {
-        Ok(elapsed) => nanos_of(elapsed),
+        Ok(elapsed) => time_after_zero(elapsed),
         Err(_) => None,
     }
 }
 
 /// The machine's clock, in nanoseconds since an arbitrary start: the monotonic clock of the handle, which `tt_host::ByClock`
 /// makes the one that the settings name. The daemon, the workers and the readers of a shared file use it. A read fails if the
-/// system's clock can't be read, if it shows a time above [`MAX_TIME`], or if it shows a time below the last one. So no reading
+/// system's clock can't be read, if it shows a time above `MAX_TIME`, or if it shows a time below the last one. So no reading
 /// is below one before it.
 ///
 /// Nothing else is claimed of what the system's clock shows. In contracts the clock is its last reading and its

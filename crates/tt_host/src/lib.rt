@@ -12,7 +12,7 @@
 //!
 //! - `clocks`: the clocks of the host, and [`DeviceClock`], one of its devices. `handles`: [`ByClock`].
 //! - `hosts`: [`Host`] and [`ServiceHost`], what programs need of the host's handle, each one bound.
-//! - `limits`: what the process may have. `files`: files, and their first bytes.
+//! - `durations`: durations in nanoseconds. `limits`: what the process may have. `files`: files, and their first bytes.
 //! - `signs`: looks and watches. `sleeps`: how long the host slept. `slews`: how fast `CLOCK_MONOTONIC` goes. `guests`: what the
 //!   host tells a guest of its clock.
 //!
@@ -20,6 +20,7 @@
 #![tactic(auto)]
 
 mod clocks;
+mod durations;
 mod files;
 mod guests;
 mod handles;
@@ -31,6 +32,7 @@ mod slews;
 mod sockets;
 
 pub use clocks::{DeviceClock, HostClock, HostClocks};
+pub use durations::{nanoseconds, time_after_zero};
 pub use files::read_start;
 pub use guests::disruptions_in;
 pub use handles::{ByClock, ByClocks};

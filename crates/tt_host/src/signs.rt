@@ -4,6 +4,7 @@ ghost use Rattle.std.specs.Prelude.{◌≡◌, true, false};
 ghost use Rattle.tt_host.specs.declared.signs.Sleep.TheVariants.{Unseen};
 
 use crate::clocks::{HostClock, HostClocks};
+use crate::durations::nanoseconds;
 use crate::files::{open_at, read_start};
 use crate::guests::disruptions_in;
 use crate::sleeps::{Lead, Look, is_wide, narrowed, slept_between};
@@ -31,7 +32,7 @@ pub fn read_at<R: Files<File = File>>(
 
 /// A time in nanoseconds. None if it can't be read, or has more than 64 bits.
 fn nanos_of(read: io::Result<Duration>) -> Option<u64> {
-    u64::try_from(read.ok()?.as_nanos()).ok()
+    nanoseconds(read.ok()?)
 }
 
 /// One look at how far the clock of the boot leads the monotonic one.

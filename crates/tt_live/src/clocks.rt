@@ -9,6 +9,7 @@ ghost use Rattle.tt_live.specs.Clock.{LiveGives, new_clock};
 use std::marker::Model;
 use std::sync::atomic::{AtomicBool, Ordering};
 use std::time::{Clock as SystemClock, Duration, Instant};
+use tt_host::nanoseconds;
 use tt_master::{RefFault, Reference};
 use tt_publish::{Clock, ClockFault};
 use tt_span::MAX_TIME;
@@ -26,7 +27,7 @@ fn time_after(base: u64, elapsed: Duration) -> Option<u64>
     ensures shown { IfSome result (λ time. (time ≡ base + as_nanos elapsed) × (time ≤ max_time)) }
     ensures past { result ≡ None → max_time < base + as_nanos elapsed }
 {
-    let Ok(elapsed) = u64::try_from(elapsed.as_nanos()) else {
+    let Some(elapsed) = nanoseconds(elapsed) else {
         return None;
     };
     let Some(time) = base.checked_add(elapsed) else {

@@ -11,7 +11,7 @@ use std::os::unix::fs::MetadataExt;
 use std::rt::Env;
 use std::time::{Clock as SystemClock, Duration};
 use std::{env, thread};
-use tt_host::{ByClock, Host};
+use tt_host::{ByClock, Host, nanoseconds};
 use tt_publish::Clock;
 use tt_session::{Deadline, DeadlineReader, Timed};
 use tt_settings::{Key, SettingsFault};
@@ -290,7 +290,7 @@ fn age_of<H: Files<File = File> + SystemClock>(rt: &H, path: &str) -> Option<u64
     let seconds = u64::try_from(metadata.mtime()).ok()?;
     let nanos = u64::try_from(metadata.mtime_nsec()).ok()?;
     let written = seconds.saturating_mul(SECOND).saturating_add(nanos);
-    let now = u64::try_from(rt.since_1970().ok()?.as_nanos()).ok()?;
+    let now = nanoseconds(rt.since_1970().ok()?)?;
     Some(now.saturating_sub(written))
 }
 

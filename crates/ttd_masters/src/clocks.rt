@@ -7,31 +7,27 @@ ghost use Rattle.tt_stream.specs.Counts.{HasFailed};
 ghost use Rattle.ttd_masters.specs.Clocks.{shown_at};
 
 use std::time::{Clock as SystemClock, Duration};
-use tt_host::{DeviceClock, HostClock, HostClocks};
+use tt_host::{DeviceClock, HostClock, HostClocks, time_after_zero};
 use tt_master::{RefFault, Reference};
 use tt_publish::{Clock, ClockFault};
-use tt_span::MAX_TIME;
 use ttd_words::Offset;
 
 /// What a clock with this offset shows at a time since 1970, in nanoseconds. None if that is before 1970 or past
-/// [`MAX_TIME`].
+/// `MAX_TIME`.
 pub(crate) fn shown_at(offset: Offset, time: Duration) -> Option<u64>
     ensures value { result ≡ shown_at offset (as_nanos time) }
     ensures in_time { IfSome result (λ shown. shown ≤ max_time) }
 {
-    let nanos = time.as_nanos();
     let shown = match offset {
-        Offset::Later(by) => nanos.checked_add(u128::from(by)),
-        Offset::Earlier(by) => nanos.checked_sub(u128::from(by)),
+        Offset::Later(by) => time.checked_add(Duration::from_nanos(by)),
+        Offset::Earlier(by) => time.checked_sub(Duration::from_nanos(by)),
     };
-    match shown {
-        Some(shown) if shown <= u128::from(MAX_TIME) => Some(shown as u64),
-        _ => None,
-    }
+    let shown = shown?;
+    time_after_zero(shown)
 }
 
 /// The reference of a master: this computer's real-time clock, in nanoseconds since 1970, moved by an offset. A read
-/// fails if that clock can't be read, or if it would show a time before 1970 or past [`MAX_TIME`]. Nothing is claimed
+/// fails if that clock can't be read, or if it would show a time before 1970 or past `MAX_TIME`. Nothing is claimed
 /// of what it shows.
 #[derive(Drop)]
 pub struct RealTime<'a, R> {
@@ -87,7 +83,7 @@ impl<'a, R: SystemClock> Reference for RealTime<'a, R> {
 const SECOND: u64 = 1_000_000_000;
 
 /// The UTC that a hardware clock shows, in nanoseconds since 1970, where TAI, which it has, is so many seconds ahead. None if
-/// it can't be read, or would show a time before 1970 or past [`MAX_TIME`].
+/// it can't be read, or would show a time before 1970 or past `MAX_TIME`.
 pub(crate) fn device_time(clock: &DeviceClock, tai_offset: u64) -> Option<u64>
     ensures in_time { IfSome result (λ time. time ≤ max_time) }
 {
@@ -96,7 +92,7 @@ pub(crate) fn device_time(clock: &DeviceClock, tai_offset: u64) -> Option<u64>
 }
 
 /// What `CLOCK_MONOTONIC` shows, in nanoseconds, which Linux slews as it slews the real-time clock. None if it can't be read,
-/// or shows a time past [`MAX_TIME`].
+/// or shows a time past `MAX_TIME`.
 pub(crate) fn slewed_time<R: HostClocks>(rt: &R) -> Option<u64>
     ensures in_time { IfSome result (λ time. time ≤ max_time) }
 {
@@ -104,7 +100,7 @@ pub(crate) fn slewed_time<R: HostClocks>(rt: &R) -> Option<u64>
 }
 
 /// The clock of a machine: this computer's monotonic clock, in nanoseconds. A read fails if that clock can't be read,
-/// or if it shows a time past [`MAX_TIME`]. Nothing is claimed of what it shows.
+/// or if it shows a time past `MAX_TIME`. Nothing is claimed of what it shows.
 #[derive(Drop)]
 pub struct Monotonic<'a, R> {
     rt: &'a R,
