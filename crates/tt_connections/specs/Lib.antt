@@ -7,5 +7,5 @@ pub mod Sessions
 pub mod Path
 pub mod Waiting
 pub mod Session
-pub mod Clock
+pub mod Client
 pub mod Request

@@ -3,7 +3,6 @@
 ghost use Rattle.std.specs.Prelude.{◌≡◌, ◌<◌};
 ghost use Rattle.tt_connections.specs.Waiting.{hands_over, left_of, pause_of, refusal_in};
 
-use crate::clocks::reading_of;
 use crate::inboxes::{Inbox, MAX_WAITING, is_crowded_after};
 use crate::listeners::{Came, Listener};
 use mio::unix::SourceFd;
@@ -14,6 +13,7 @@ use std::sync::Wait;
 use std::sync::atomic::{AtomicBool, AtomicU64, AtomicUsize, Ordering};
 use std::time::{Clock as SystemClock, Duration};
 use std::{io, thread};
+use tt_clock::reading_of;
 use tt_files::Reason;
 
 /// How long clients wait for the first publication, in nanoseconds: two seconds.

@@ -25,18 +25,17 @@
 //! - `acceptors`: [`Listeners`] and [`Acceptor`]: when connections are handed over, how long the acceptor waits, and when
 //!   workers share their time.
 //! - `lines`: [`Counts`]. `presence`: [`Presence`], whether a client is still there and whether the machine is broken, and
-//!   `sights`: both for the client of a socket. `clocks`: [`MachineClock`].
+//!   `sights`: both for the client of a socket.
 //! - `posts`: [`Post`]. `stations`: [`Station`], the service of one session, and `pages`: its book. `together`: replies that
 //!   are handed over together. `visits`: [`Visit`], and [`Post::turn`]. `faults`: why a station refuses a call.
 //! - `requests`: [`FirstLine`], whether the first line of a session is that of an HTTP request.
 //!
 //! The functions over values are proved: what is done at the path of a Unix socket, when connections are handed over, how
 //! long the acceptor waits, when workers share their time, when a client has left, and which lines are those of HTTP. So is
-//! all of a turn, and that no reading of a [`MachineClock`] is below one before it. Nothing is claimed of sockets, threads and their order.
+//! all of a turn. Nothing is claimed of sockets, threads and their order.
 #![tactic(auto)]
 
 mod acceptors;
-mod clocks;
 mod faults;
 mod inboxes;
 mod lines;
@@ -51,7 +50,6 @@ mod together;
 mod visits;
 
 pub use acceptors::{Acceptor, Backlog, Listeners};
-pub use clocks::{MachineClock, reading_of};
 pub use faults::StationFault;
 pub use inboxes::{Inbox, MAX_EVENTS, MAX_WAITING, Ready, Room, Watcher};
 pub use lines::{Counts, WAIT_BOUNDS, is_over, place_of};

@@ -3,7 +3,6 @@
 ghost use Rattle.std.specs.Prelude.{◌≡◌};
 ghost use Rattle.tt_connections.specs.Session.{seen_after, is_gone, is_gone_at};
 
-use crate::clocks::reading_of;
 use crate::lines::{Counts, is_over};
 use crate::presence::Presence;
 use mio::unix::SourceFd;
@@ -16,6 +15,7 @@ use std::os::fd::AsRawFd;
 use std::sync::atomic::{AtomicBool, AtomicU64, Ordering};
 use std::sync::{Mutex, Wait};
 use std::time::{Clock as SystemClock, Duration};
+use tt_clock::reading_of;
 
 /// How many events one look reports.
 const EVENTS: usize = 2;
@@ -203,7 +203,7 @@ impl<'a, R: Wait + SystemClock> Client<'a, R> {
 }
 
 impl<'a, R: Wait + SystemClock> Presence for Client<'a, R> {
-    ghost use Rattle.tt_connections.specs.Clock.{ClientSays};
+    ghost use Rattle.tt_connections.specs.Client.{ClientSays};
 
     ghost says = { ClientSays };
 

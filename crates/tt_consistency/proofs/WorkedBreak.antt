@@ -14,7 +14,8 @@ use Rattle.tt_rounds.specs.Course.{Given, Stand, GoesOn, ◌>>=◌, each_below, 
 use Rattle.tt_rounds.specs.Making.{Leads}
 use Rattle.tt_session.specs.declared.calls.Call.TheVariants as call
 use Rattle.tt_stamp.proofs.Ids.{Contains-here, Contains-there}
-use Rattle.tt_connections.specs.Clock.{MachineGives, ClientSays}
+use Rattle.tt_clock.specs.Clock.{MachineGives}
+use Rattle.tt_connections.specs.Client.{ClientSays}
 use Rattle.tt_world.specs.Meeting.{AllMeet, HasUnmet}
 use Rattle.tt_consistency.specs.Assumed.{IsAssumed}
 use Rattle.tt_consistency.specs.Calls.{RoundsCall, kept_after}

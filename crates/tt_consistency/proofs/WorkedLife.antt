@@ -33,7 +33,8 @@ use Rattle.tt_connections.specs.Turns.{AllowsOn}
 use Rattle.tt_connections.specs.declared.faults.StationFault.TheVariants.{FloorAboveCap}
 use Rattle.tt_connections.proofs.Leasing.{stamps_whole}
 use Rattle.tt_connections.proofs.Turning.{post-same, post-both, call-goes_on, allows-on}
-use Rattle.tt_connections.specs.Clock.{ClockState, MachineGives, ClientSays}
+use Rattle.tt_clock.specs.Clock.{ClockState, MachineGives}
+use Rattle.tt_connections.specs.Client.{ClientSays}
 use Rattle.tt_consistency.specs.Order.{IsSeen}
 use Rattle.tt_consistency.specs.Timed.{CallTimes, timed_of}
 use Rattle.tt_consistency.specs.Reads.{IsTakenAt}

@@ -4,7 +4,7 @@ use Rattle.tt_daemon.specs.Daemon.{DaemonState}
 use Rattle.tt_daemon.specs.Publication.{Publication}
 use Rattle.tt_publish.specs.Reading.{fused_span_of}
 use Rattle.tt_publish.specs.declared.readings.FusedSpan.{FusedSpan}
-use Rattle.tt_connections.specs.Clock.{ClockState, MachineGives}
+use Rattle.tt_clock.specs.Clock.{ClockState, MachineGives}
 use Rattle.tt_rounds.specs.Course.{rounds_of}
 use Rattle.tt_rounds.specs.Fusing.{fusions_in}
 use Rattle.tt_rounds.specs.Link.{Packet, Call, Exchange, Gift, Came, ClockGives, LinkDoes, gifts_in}

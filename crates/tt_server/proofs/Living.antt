@@ -12,7 +12,7 @@ use Rattle.tt_stamp.specs.Stamping.{SeatState}
 use Rattle.tt_connections.specs.Station.{PostState}
 use Rattle.tt_connections.specs.Sessions.{AreServedBetween}
 use Rattle.tt_connections.specs.declared.posts.Terms.{Terms}
-use Rattle.tt_connections.specs.Clock.{ClockState}
+use Rattle.tt_clock.specs.Clock.{ClockState}
 use Rattle.tt_workers.specs.Worker.{WorkerServed}
 use Rattle.tt_epoch.specs.Disk.{Call, Gift, Gave, NotOwn, Done, Broke, number_of}
 use Rattle.tt_epoch.specs.Course.{Stage, Reads, Writes, Syncs, Installs, Fixes, Answered, Over, step_of, stage_after, Takes}

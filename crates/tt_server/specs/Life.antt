@@ -4,7 +4,8 @@ use Rattle.tt_publish.specs.Known.{WatchState, seen_of}
 use Rattle.tt_connections.specs.Sessions.{AreServedBetween}
 use Rattle.tt_connections.specs.Turns.{PostGoesOn}
 use Rattle.tt_connections.specs.declared.posts.Terms.{Terms}
-use Rattle.tt_connections.specs.Clock.{MachineGives, ClientSays}
+use Rattle.tt_clock.specs.Clock.{MachineGives}
+use Rattle.tt_connections.specs.Client.{ClientSays}
 use Rattle.tt_workers.specs.Happening.{AreAllByTurns}
 use Rattle.tt_workers.specs.Worker.{clock_failures, max_waits}
 use Rattle.tt_settings.specs.Settings.{Meaning}

@@ -20,7 +20,7 @@ use std::fs::{File, Files, OpenOptions};
 use std::sync::Wait;
 use std::thread;
 use std::time::{Clock as SystemClock, Duration};
-use tt_connections::reading_of;
+use tt_clock::reading_of;
 use tt_files::{open_regular, replace};
 use tt_health::{
     BreakRecord, breaks_in_a_row, breaks_recorded, pause_before_start, record_after, record_of,

@@ -71,5 +71,4 @@ pub use lives::{LifeEnd, WorkerEnd};
 pub use names::{HostNames, MAX_FOUND, has_names};
 pub use servers::{EndOfInput, serve};
 pub use sharers::SharesFile;
-pub use tt_connections::MachineClock;
 pub use tt_host::descriptor_limit;

@@ -11,7 +11,7 @@ use std::sync::{Arc, Mutex, Wait};
 use std::thread::{Parker, Threads};
 use std::time::{Clock as SystemClock, Duration};
 use std::{array, thread};
-use tt_connections::reading_of;
+use tt_clock::reading_of;
 use tt_daemon::MAX_SOURCES;
 use tt_health::Answer;
 use tt_settings::{MasterSettings, Pauses};

@@ -21,7 +21,7 @@ use std::fs::{File, Files};
 use std::net::{Net, SocketAddr, UdpSocket};
 use std::sync::{Arc, Wait};
 use std::time::Clock as SystemClock;
-use tt_connections::MachineClock;
+use tt_clock::MachineClock;
 use tt_daemon::{Daemon, Fused, MAX_SOURCES};
 use tt_host::{HostClocks, Sleep};
 use tt_publish::{Clock, Teller};

@@ -11,7 +11,7 @@ use std::sync::atomic::{AtomicBool, AtomicU64, Ordering};
 use std::sync::{Arc, Wait};
 use std::thread::{self, Threads};
 use std::time::{Clock as SystemClock, Duration};
-use tt_connections::reading_of;
+use tt_clock::reading_of;
 use tt_host::HostClock;
 use tt_report::{Lane, Reporter};
 use tt_shared::SharedSpan;

@@ -19,9 +19,7 @@ use std::net::{Ipv4Addr, Net, TcpListener, TcpStream};
 use std::sync::Wait;
 use std::thread::Threads;
 use std::time::Clock as SystemClock;
-use tt_connections::{
-    Acceptor, Backlog, Inbox, Listener, ListenerFault, Listeners, MachineClock, Room, Sight,
-};
+use tt_connections::{Acceptor, Backlog, Inbox, Listener, ListenerFault, Listeners, Room, Sight};
 use tt_daemon::Daemon;
 use tt_files::Reason;
 use tt_pages::Limits;

@@ -4,7 +4,8 @@ use Rattle.tt_publish.specs.Known.{WatchState}
 use Rattle.tt_stamp.specs.History.{waiting_of}
 use Rattle.tt_stamp.specs.Stamping.{SeatState}
 use Rattle.tt_session.specs.declared.calls.Call.{Call}
-use Rattle.tt_connections.specs.Clock.{ClockState, MachineGives, ClientSays}
+use Rattle.tt_clock.specs.Clock.{ClockState, MachineGives}
+use Rattle.tt_connections.specs.Client.{ClientSays}
 use Rattle.tt_connections.specs.Station.{PostState}
 use Rattle.tt_connections.specs.Turns.{PostGoesOn}
 use Rattle.tt_connections.specs.Sessions.{WorkerSession, AreServedBetween}

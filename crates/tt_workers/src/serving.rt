@@ -11,9 +11,10 @@ use std::sync::atomic::Ordering;
 use std::sync::{Mutex, Wait};
 use std::time::{Clock as SystemClock, Duration};
 use std::{mem, thread};
+use tt_clock::reading_of;
 use tt_connections::{
     Backlog, Client, Counts, Inbox, Listeners, MAX_EVENTS, MAX_WAITING, Ready, SLICE, Sight,
-    Watcher, reading_of,
+    Watcher,
 };
 use tt_session::Replies;
 

@@ -15,12 +15,12 @@ use std::os::unix::net::UnixStream;
 use std::thread;
 use std::time::{Clock as SystemClock, Duration};
 use thiserror::Error;
+use tt_clock::MachineClock;
 use tt_host::Host;
 use tt_live::{ExchangeFault, Meaning, Reply, exchange, meaning_of, refusal_in};
 use tt_publish::Clock;
 use tt_session::{Deadline, DeadlineReader, DeadlineWriter, Timed};
 use tt_stream::{ByteReader, ByteWriter};
-use ttd_masters::Monotonic;
 use ttd_words::{Peer, Status, explain, sentence_of, write};
 
 /// The most times that one line is sent.
@@ -262,7 +262,7 @@ fn last_reply<H: SystemClock>(
 
 /// Sends a line, and takes its reply, which has to come whole in 30 seconds.
 fn reply_to<H: SystemClock>(rt: &H, stream: &TcpStream, line: &[u8]) -> Result<Reply, ReplyFault> {
-    let mut clock = Monotonic::new(rt);
+    let mut clock = MachineClock::new(rt);
     let Ok(now) = clock.read() else {
         return Err(ReplyFault::NoClock);
     };
@@ -270,11 +270,11 @@ fn reply_to<H: SystemClock>(rt: &H, stream: &TcpStream, line: &[u8]) -> Result<R
         at: now.saturating_add(REPLY_WAIT),
         tries: u32::MAX,
     };
-    let mut writer = DeadlineWriter::new(Timed::new(stream), Monotonic::new(rt), deadline);
+    let mut writer = DeadlineWriter::new(Timed::new(stream), MachineClock::new(rt), deadline);
     let mut reader = DeadlineReader::new(Timed::new(stream), clock, deadline);
     match exchange(&mut reader, &mut writer, line) {
         Ok(reply) => Ok(reply),
-        Err(fault) if may_be_late(fault) => match Monotonic::new(rt).read() {
+        Err(fault) if may_be_late(fault) => match MachineClock::new(rt).read() {
             Ok(after) if after < deadline.at => Err(ReplyFault::Broken(fault)),
             Ok(_) => Err(ReplyFault::Late),
             Err(_) => Err(ReplyFault::NoClock),

@@ -5,11 +5,12 @@ use crate::services::Stop;
 use arrayvec::ArrayVec;
 use std::fs::{File, Files};
 use std::io::Eprint;
+use tt_clock::MachineClock;
 use tt_host::{ByClocks, Host};
 use tt_shared::{BOOT_LEN, FILE_LEN, HEAD_LEN, SharedFault, decode_head, open_view};
 use tt_stream::ByteWriter;
 use tt_text::put_line;
-use ttd_masters::{Monotonic, StartFault, bytes_of};
+use ttd_masters::{StartFault, bytes_of};
 use ttd_words::write;
 
 /// Where the name of its boot stands in a shared file.
@@ -32,7 +33,7 @@ pub(crate) fn read<H: Host + ByClocks + Copy, O: ByteWriter>(
         Err(fault) => return Err(refused(rt, file, fault)),
     };
     let by = rt.by(reader.clock());
-    match reader.now(&mut Monotonic::new(&by)) {
+    match reader.now(&mut MachineClock::new(&by)) {
         Ok(seen) => {
             let ends = [seen.reading.earliest(), seen.reading.latest()];
             let mut line = ArrayVec::<u8, 64>::new();

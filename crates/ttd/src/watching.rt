@@ -11,13 +11,14 @@ use std::os::unix::fs::MetadataExt;
 use std::rt::Env;
 use std::time::{Clock as SystemClock, Duration};
 use std::{env, thread};
+use tt_clock::MachineClock;
 use tt_host::{ByClock, Host, nanoseconds};
 use tt_publish::Clock;
 use tt_session::{Deadline, DeadlineReader, Timed};
 use tt_settings::{Key, SettingsFault};
 use tt_stream::{ByteWriter, ReadFault, read_to_end};
 use tt_top::{Form, MAX_COLUMNS, View, ViewFault, push_svg, push_view, read_view};
-use ttd_masters::{Monotonic, StartFault, bytes_of};
+use ttd_masters::{StartFault, bytes_of};
 use ttd_words::{TopPlace, write};
 
 /// The pause between two looks, in milliseconds.
@@ -411,7 +412,7 @@ fn fetch<H: AllocGlobal + Net<Stream = TcpStream> + SystemClock>(
     stream.set_read_timeout(Some(wait))?;
     stream.set_write_timeout(Some(wait))?;
     stream.write_all(request)?;
-    let mut clock = Monotonic::new(rt);
+    let mut clock = MachineClock::new(rt);
     let Ok(now) = clock.read() else {
         return Err(LookFault::Answer(ReadFault::Failed));
     };

@@ -9,7 +9,6 @@ ghost use Rattle.ttd_masters.specs.Clocks.{shown_at};
 use std::time::{Clock as SystemClock, Duration};
 use tt_host::{DeviceClock, HostClock, HostClocks, time_after_zero};
 use tt_master::{RefFault, Reference};
-use tt_publish::{Clock, ClockFault};
 use ttd_words::Offset;
 
 /// What a clock with this offset shows at a time since 1970, in nanoseconds. None if that is before 1970 or past
@@ -97,39 +96,4 @@ pub(crate) fn slewed_time<R: HostClocks>(rt: &R) -> Option<u64>
     ensures in_time { IfSome result (λ time. time ≤ max_time) }
 {
     shown_at(Offset::Later(0), rt.read_clock(HostClock::Monotonic).ok()?)
-}
-
-/// The clock of a machine: this computer's monotonic clock, in nanoseconds. A read fails if that clock can't be read,
-/// or if it shows a time past `MAX_TIME`. Nothing is claimed of what it shows.
-#[derive(Drop)]
-pub struct Monotonic<'a, R> {
-    rt: &'a R,
-    failures: u64,
-}
-
-impl<'a, R: SystemClock> Monotonic<'a, R> {
-    /// The clock of this machine.
-    pub fn new(rt: &'a R) -> Self {
-        Monotonic { rt, failures: 0 }
-    }
-}
-
-impl<'a, R: SystemClock> Clock for Monotonic<'a, R> {
-    ghost gives = { λ _ _ _. Unit {0} };
-
-    ghost failed = { λ clock. clock.failures };
-
-    fn read(&mut self) -> Result<u64, ClockFault> {
-        if let Ok(elapsed) = self.rt.monotonic() {
-            if let Some(time) = shown_at(Offset::Later(0), elapsed) {
-                return Ok(time);
-            }
-        }
-        self.failures = self.failures.saturating_add(1);
-        Err(ClockFault::Failed)
-    }
-
-    fn failures(&self) -> u64 {
-        self.failures
-    }
 }

@@ -24,7 +24,7 @@ mod standing;
 mod telling;
 mod upstreams;
 
-pub use clocks::{Monotonic, RealTime};
+pub use clocks::RealTime;
 pub use faults::StartFault;
 pub use files::bytes_of;
 pub use hosts::AsksServers;

@@ -3,8 +3,8 @@
 ghost use Rattle.std.specs.Prelude.{◌≡◌};
 ghost use Rattle.ttd_masters.specs.Pauses.{is_due as is_due_at, next_pause as pause_after};
 
-use crate::clocks::Monotonic;
 use std::time::Clock as SystemClock;
+use tt_clock::MachineClock;
 use tt_publish::Clock;
 
 /// The first pause before a master tries its address again, in milliseconds.
@@ -33,7 +33,7 @@ fn is_due(last: u64, now: u64) -> bool
 /// Looks that are a second apart at least, by the monotonic clock.
 #[derive(Drop)]
 pub(crate) struct Looks<'a, R> {
-    clock: Monotonic<'a, R>,
+    clock: MachineClock<'a, R>,
     last: u64,
 }
 
@@ -41,7 +41,7 @@ impl<'a, R: SystemClock> Looks<'a, R> {
     /// The first look is due a second after the clock began.
     pub(crate) fn new(rt: &'a R) -> Self {
         Looks {
-            clock: Monotonic::new(rt),
+            clock: MachineClock::new(rt),
             last: 0,
         }
     }

@@ -3,11 +3,12 @@
 ghost use Rattle.std.specs.Prelude.{◌≡◌, ◌≤◌};
 ghost use Rattle.tt_span.specs.Time.{max_time};
 
-use crate::clocks::{Monotonic, RealTime, device_time, slewed_time};
+use crate::clocks::{RealTime, device_time, slewed_time};
 use crate::hosts::AsksServers;
 use crate::upstreams::{SharedServer, Upstream};
 use std::sync::Wait;
 use std::time::Clock as SystemClock;
+use tt_clock::{MachineClock, reading_of};
 use tt_fuse::check_counts;
 use tt_host::{DeviceClock, Sleep, SleepWatch};
 use tt_master::{RealTimeWatch, Reference, Silence, SpanReference, stated_span};
@@ -50,7 +51,7 @@ impl Look {
 pub(crate) struct StatedTime<'a, H> {
     rt: &'a H,
     real: RealTime<'a, H>,
-    monotonic: Monotonic<'a, H>,
+    monotonic: MachineClock<'a, H>,
     uncertainty: u64,
     steps: RealTimeWatch,
     statement: RealTimeWatch,
@@ -64,7 +65,7 @@ impl<'a, H: SystemClock> StatedTime<'a, H> {
         StatedTime {
             rt,
             real: RealTime::new(rt, offset),
-            monotonic: Monotonic::new(rt),
+            monotonic: MachineClock::new(rt),
             uncertainty,
             steps: RealTimeWatch::of_steps(),
             statement: RealTimeWatch::of_statement(uncertainty, drift),
@@ -111,7 +112,7 @@ impl<'a, H: SystemClock + AsksServers> SpanReference for StatedTime<'a, H> {
 pub(crate) struct DeviceTime<'a, H> {
     clock: DeviceClock,
     tai_offset: u64,
-    monotonic: Monotonic<'a, H>,
+    monotonic: MachineClock<'a, H>,
     uncertainty: u64,
     statement: RealTimeWatch,
 }
@@ -131,7 +132,7 @@ impl<'a, H: SystemClock> DeviceTime<'a, H> {
         DeviceTime {
             clock,
             tai_offset,
-            monotonic: Monotonic::new(rt),
+            monotonic: MachineClock::new(rt),
             uncertainty,
             statement: RealTimeWatch::of_statement(uncertainty, drift),
         }
@@ -236,7 +237,7 @@ impl<'a, H: Wait + SystemClock + AsksServers> SpanReference for NtpServers<'a, H
     fn read(&mut self) -> Result<Span, Silence> {
         self.ask_near();
         self.notice_sleep();
-        let Ok(now) = Monotonic::new(self.rt).read() else {
+        let Some(now) = reading_of(self.rt) else {
             return Err(Silence::Clock);
         };
         let all = self.said(now);

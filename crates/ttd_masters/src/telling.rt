@@ -3,7 +3,6 @@
 ghost use Rattle.std.specs.Prelude.{◌≡◌, OnOk};
 ghost use Rattle.ttd_masters.specs.Telling.{status_of as status_told};
 
-use crate::clocks::Monotonic;
 use crate::hosts::AsksServers;
 use crate::players::Player;
 use crate::references::KnownTime;
@@ -11,7 +10,7 @@ use crate::standing::Told;
 use std::alloc::AllocError;
 use std::sync::Wait;
 use std::time::Clock as SystemClock;
-use tt_publish::Clock;
+use tt_clock::reading_of;
 use tt_status::ServerStatus;
 use tt_upstream::Server;
 
@@ -46,7 +45,7 @@ fn statuses_of<H: Wait + SystemClock + AsksServers + AllocGlobal>(
     let KnownTime::Ntp(servers) = known else {
         return Ok(statuses);
     };
-    let Ok(now) = Monotonic::new(rt).read() else {
+    let Some(now) = reading_of(rt) else {
         return Ok(statuses);
     };
     for server in servers.servers() {

@@ -3,7 +3,6 @@
 ghost use Rattle.std.specs.Prelude.{◌≡◌};
 ghost use Rattle.ttd_masters.specs.Upstreams.{every_of as pause_between, is_passing_receipt, put_off_by, silences_after};
 
-use crate::clocks::Monotonic;
 use crate::hosts::AsksServers;
 use std::alloc::{AllocError, Global};
 use std::io::{self, ErrorKind};
@@ -11,9 +10,9 @@ use std::net::{Ipv4Addr, Ipv6Addr, SocketAddr, UdpSocket};
 use std::sync::{Arc, Mutex, Wait};
 use std::thread;
 use std::time::{Clock as SystemClock, Duration};
+use tt_clock::reading_of;
 use tt_host::{Sleep, SleepWatch};
 use tt_ntp::{PacketKey, encode_keyed, encode_request};
-use tt_publish::Clock;
 use tt_report::Reporter;
 use tt_status::LogEvent;
 use tt_upstream::{Exchange, Line, Plan, RECEIVED_LEN, Receipt, Server, ask_once};
@@ -135,7 +134,7 @@ impl<'a, H: SystemClock + AsksServers> Line for UdpLine<'a, H> {
     }
 
     fn now(&mut self) -> Option<u64> {
-        Monotonic::new(self.rt).read().ok()
+        reading_of(self.rt)
     }
 
     fn send(&mut self, nonce: u64) {
@@ -234,8 +233,7 @@ impl Upstream {
         rt: &H,
         reporter: &Reporter,
     ) {
-        let mut clock = Monotonic::new(rt);
-        let Ok(now) = clock.read() else {
+        let Some(now) = reading_of(rt) else {
             return;
         };
         if now >= self.not_before && self.server.lock(rt).is_due(now) {
@@ -303,8 +301,7 @@ impl Upstream {
 
     /// How long it is until the next request is due, in nanoseconds, and at most a second.
     fn left<H: Wait + SystemClock>(&self, rt: &H) -> u64 {
-        let mut clock = Monotonic::new(rt);
-        let Ok(now) = clock.read() else {
+        let Some(now) = reading_of(rt) else {
             return LONGEST_SLEEP;
         };
         match self.server.lock(rt).left(now) {
@@ -323,7 +320,7 @@ fn wait_of(is_near: bool) -> u64 {
 
 /// What the clock of this host shows, or 0 where it can't be read.
 fn now_of<H: SystemClock>(rt: &H) -> u64 {
-    Monotonic::new(rt).read().unwrap_or(0)
+    reading_of(rt).unwrap_or(0)
 }
 
 /// A socket to ask a server at this address by. A receipt waits so many milliseconds.

@@ -1,7 +1,7 @@
 use Rattle.std.proofs.Common.{◌≡◌, ◌<◌, ◌^◌, List, All, length, refl, sym, ap, ◌∙◌, subst, rules, arith}
 use Rattle.tt_daemon.specs.Config.{Configuration}
 use Rattle.tt_publish.specs.Known.{Known, new_watch}
-use Rattle.tt_connections.specs.Clock.{ClockState}
+use Rattle.tt_clock.specs.Clock.{ClockState}
 use Rattle.tt_server.specs.declared.lives.WorkerEnd.{WorkerEnd}
 use Rattle.tt_server.specs.Thread.{terms_in}
 use Rattle.tt_server.proofs.Living.{Begins, new-watches, sources-handed, handed-of, has-called, life-ended}

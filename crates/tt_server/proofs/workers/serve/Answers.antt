@@ -1,7 +1,7 @@
 use Rattle.std.proofs.Common.{ap, subst, ◌∙◌}
 use Rattle.tt_publish.specs.Known.{WatchState}
 use Rattle.tt_connections.specs.Station.{PostState}
-use Rattle.tt_connections.specs.Clock.{ClockState}
+use Rattle.tt_clock.specs.Clock.{ClockState}
 use Rattle.tt_workers.specs.Worker.{WorkerServed}
 use Rattle.tt_server.proofs.Living.{handed-back}
 use Rattle.tt_server.proofs.workers.serve.Goals as goal

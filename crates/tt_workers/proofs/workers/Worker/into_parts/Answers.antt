@@ -1,6 +1,6 @@
 use Rattle.std.proofs.Common.{sym, ap, subst}
 use Rattle.tt_connections.specs.Station.{PostState}
-use Rattle.tt_connections.specs.Clock.{ClockState}
+use Rattle.tt_clock.specs.Clock.{ClockState}
 use Rattle.tt_workers.specs.Worker.{WorkerState, WorkerServed}
 use Rattle.tt_workers.proofs.Working.{worked-at, all-end}
 use Rattle.tt_workers.proofs.workers.Worker.into_parts.Goals as goal

@@ -34,7 +34,7 @@ pub struct MachineClock<'a, R> {
 }
 
 impl<'a, R> Model for MachineClock<'a, R> {
-    ghost use Rattle.tt_connections.specs.Clock.{ClockState};
+    ghost use Rattle.tt_clock.specs.Clock.{ClockState};
 
     ghost Value = { ClockState };
 
@@ -62,7 +62,7 @@ impl<'a, R: SystemClock> MachineClock<'a, R> {
 }
 
 impl<'a, R: SystemClock> Clock for MachineClock<'a, R> {
-    ghost use Rattle.tt_connections.specs.Clock.{MachineGives};
+    ghost use Rattle.tt_clock.specs.Clock.{MachineGives};
 
     ghost gives = { MachineGives };
 
