@@ -9,14 +9,11 @@ use crate::faults::ServerFault;
 use std::alloc::Global;
 use std::fs::{File, Files};
 use std::random::RandomSource;
-use tt_files::{Reason, facts_at};
+use tt_files::process_owner;
 use tt_keys::{KeysFault, keys_at};
 use tt_seal::{Key, key_with};
 use tt_settings::{MasterSettings, Settings};
 use tt_wire::Ring;
-
-/// What the operating system has of this process. Its owner is the user as whom the process acts.
-const OF_PROCESS: &str = "/proc/self";
 
 /// Nonces on the wire are ahead of those of the daemon by less than this.
 const AHEAD: u64 = 0x8000_0000_0000_0000;
@@ -72,15 +69,6 @@ pub(crate) fn rings_of(
     Ok(rings)
 }
 
-/// The user as whom this process acts.
-fn user_of<R: Files>(rt: &R) -> Result<u32, Reason> {
-    match facts_at(rt, OF_PROCESS) {
-        Ok(Some(process)) => Ok(process.owner),
-        Ok(None) => Err(Reason::NOTHING),
-        Err(error) => Err(Reason::of(&error)),
-    }
-}
-
 /// The keys of the file that the settings name; none where they name none. Refuses where the file gives no keys.
 pub(crate) fn keys_in_file<R: Files<File = File>>(
     rt: &R,
@@ -92,7 +80,7 @@ pub(crate) fn keys_in_file<R: Files<File = File>>(
     let Some(path) = settings.keys() else {
         return Ok(Vec::new(alloc));
     };
-    let user = match user_of(rt) {
+    let user = match process_owner(rt) {
         Ok(user) => user,
         Err(reason) => return Err(ServerFault::Keys(KeysFault::UnknownUser(reason))),
     };

@@ -10,7 +10,7 @@ use std::alloc::{AllocError, Global};
 use std::fs::{File, Files};
 use std::net::{Ipv4Addr, SocketAddr};
 use thiserror::Error;
-use tt_files::{Facts, facts_at};
+use tt_files::{Facts, facts_at, process_owner};
 use tt_host::Host;
 use tt_outline::outline;
 use tt_server::{
@@ -20,9 +20,6 @@ use tt_settings::{FilePath, MasterSettings, Settings};
 use tt_sharing::folder_and_name;
 use tt_stream::ByteWriter;
 use ttd_words::write;
-
-/// What the operating system has of this process. Its owner is the user as whom the process acts.
-const OF_PROCESS: &str = "/proc/self";
 
 /// Why a machine could write no file in a folder. It is shown as a person reads it.
 #[derive(Clone, Copy, Debug, PartialEq, Eq, Error)]
@@ -136,10 +133,7 @@ fn push_found<H: Files<File = File> + HostNames>(
     for master in settings.masters() {
         push_name(rt, text, master)?;
     }
-    let user = match facts_at(rt, OF_PROCESS) {
-        Ok(Some(facts)) => facts.owner,
-        _ => 0,
-    };
+    let user = process_owner(rt).unwrap_or(0);
     push_warning(rt, text, "socket", settings.socket(), user)?;
     push_warning(rt, text, "shared", settings.shared(), user)?;
     push_warning(rt, text, "status", settings.status(), user)?;

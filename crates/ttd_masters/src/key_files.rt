@@ -7,21 +7,9 @@ ghost use Rattle.ttd_masters.specs.Keys.{IsAsBefore, is_of_file as is_of_the_fil
 use std::alloc::Global;
 use std::fs::{File, Files};
 use std::io::Eprint;
-use tt_files::{Reason, facts_at};
+use tt_files::process_owner;
 use tt_keys::{KeysFault, keys_of_text, text_at};
 use tt_seal::Key;
-
-/// What the operating system has of this process. Its owner is the user of the process.
-const OF_PROCESS: &str = "/proc/self";
-
-/// The user of this process.
-fn user_of<R: Files>(rt: &R) -> Result<u32, KeysFault> {
-    match facts_at(rt, OF_PROCESS) {
-        Ok(Some(facts)) => Ok(facts.owner),
-        Ok(None) => Err(KeysFault::UnknownUser(Reason::NOTHING)),
-        Err(error) => Err(KeysFault::UnknownUser(Reason::of(&error))),
-    }
-}
 
 /// The number of the line that a fault names, counted from 1, or 0.
 pub(crate) fn line_in(fault: KeysFault) -> u64
@@ -81,8 +69,10 @@ impl<'a> KeyFile<'a> {
 
     /// The text of the file, or why there is none.
     fn text<R: Files<File = File>>(&self, rt: &R, alloc: Global) -> Found {
-        let user = user_of(rt)?;
-        text_at(rt, alloc, self.path, user)
+        match process_owner(rt) {
+            Ok(user) => text_at(rt, alloc, self.path, user),
+            Err(reason) => Err(KeysFault::UnknownUser(reason)),
+        }
     }
 
     /// The keys of the file. None if it has the text, or the fault, of the look before.
