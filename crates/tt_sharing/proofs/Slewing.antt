@@ -18,9 +18,10 @@ use Rattle.tt_shared.proofs.Finding.{found as copied}
 use Rattle.tt_consistency.specs.Reads.{IsNoEarlier}
 use Rattle.tt_consistency.specs.Timeline.{HeldTrueTime, IsAmong}
 use Rattle.tt_consistency.proofs.Reading.{reading-holds}
+use Rattle.tt_host.specs.Slew.{KeepsSlew}
 use Rattle.tt_host.specs.declared.slews.SlewLook.{SlewLook}
 use Rattle.tt_sharing.specs.Share.{usable_until}
-use Rattle.tt_sharing.specs.Slewed.{BothClocks, IsAtLook, KeepsSlew, base_by, base_with, by_raw, by_slewed, gives_base, is_forward, slewed_drift, span_over, with_slewed}
+use Rattle.tt_sharing.specs.Slewed.{BothClocks, IsAtLook, base_by, base_with, by_raw, by_slewed, gives_base, is_forward, slewed_drift, span_over, with_slewed}
 use Rattle.tt_sharing.proofs.Finding.{cut_fits, usable_fits, within}
 
 -- ---- the ends of a reading do not go back
@@ -183,7 +184,7 @@ wrong_by d s raw slewed time near apart_by =
     let has = room raw slewed e d s (widening d s) all (below raw slewed) apart_by (least-widening d s).enough (least-widening (slewed_drift d s) slewed).enough in
     sum_of raw slewed time e (widening d raw) all refl near has.0 ((least-widening d raw).least (all - e) has.1)
 
-pub drift : (d s : ℕ) (a b : BothClocks) → AgreesWith d (by_raw a) (by_raw b) → KeepsSlew s a b → AgreesWith (slewed_drift d s) (by_slewed a) (by_slewed b)
+pub drift : (d s : ℕ) (a b : BothClocks) → AgreesWith d (by_raw a) (by_raw b) → KeepsSlew s (distance a.raw b.raw) (distance a.slewed b.slewed) → AgreesWith (slewed_drift d s) (by_slewed a) (by_slewed b)
 drift d s a b agrees keeps = wrong_by d s (distance a.raw b.raw) (distance a.slewed b.slewed) (distance a.time b.time) agrees keeps
 
 -- no time from a moment on is earlier than what was made then
@@ -192,7 +193,7 @@ from_then at fused time made later (inl same) = subst (λ (m : Moment). m.time �
 from_then at fused time made later (inr none) = absurd none
 
 pub holds : (p : SharedSpan) (look : SlewLook) (slew most : ℕ) (base : SlewedBase) (at now : BothClocks) (moments : List Moment) →
-    IsShared p → base_by p look slew most ≡ Some base → IsAtLook look at → HeldTrueTime moments p.fused → KeepsDrift p.drift (by_raw now ∷ by_raw at ∷ moments) → KeepsSlew slew now at →
+    IsShared p → base_by p look slew most ≡ Some base → IsAtLook look at → HeldTrueTime moments p.fused → KeepsDrift p.drift (by_raw now ∷ by_raw at ∷ moments) → KeepsSlew slew (distance now.raw at.raw) (distance now.slewed at.slewed) →
     IsNoEarlier moments p.fused at.time → at.time ≤ now.time → now.time ≤ max_time → CanBeReadAt base.fused now.slewed →
     Holds (reading_at base.drift base.fused now.slewed) now.time
 holds p look slew most base at now moments shared gives looked held keeps slewed no_earlier later in_time can =

@@ -2,7 +2,7 @@
 use Rattle.std.specs.Prelude.{ℕ, ◌≡◌, ◌≤◌, ◌+◌, ◌-◌, ◌*◌, ◌^◌, min, not, nat_eq, nat_le, ◌&&◌, if◌then◌else◌, Bool, Option, Some, None, unwrap_or}
 use Rattle.tt_span.specs.Time.{max_time}
 use Rattle.tt_span.specs.Interval.{Interval}
-use Rattle.tt_span.specs.Drift.{Moment, distance, max_drift, widening}
+use Rattle.tt_span.specs.Drift.{Moment, max_drift, widening}
 use Rattle.tt_publish.specs.Reading.{reading_at}
 use Rattle.tt_shared.specs.declared.bases.SlewedBase.{SlewedBase}
 use Rattle.tt_shared.specs.declared.slots.SharedSpan.{SharedSpan}
@@ -62,10 +62,6 @@ by_raw both = record { clock = both.raw; time = both.time }
 -- the moment of CLOCK_MONOTONIC
 abbrev pub by_slewed : BothClocks → Moment
 by_slewed both = record { clock = both.slewed; time = both.time }
-
--- between two moments CLOCK_MONOTONIC went faster or slower than the machine's clock by at most so many parts per million of its own distance
-abbrev pub KeepsSlew : ℕ → BothClocks → BothClocks → Type 0
-KeepsSlew slew a b = distance (distance a.raw b.raw) (distance a.slewed b.slewed) * 1000000 ≤ slew * distance a.slewed b.slewed
 
 -- the moment of a look: CLOCK_MONOTONIC showed its reading, between the two of the machine's clock
 pub record IsAtLook (look : SlewLook) (both : BothClocks) : Type 0 where

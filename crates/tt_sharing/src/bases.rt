@@ -2,7 +2,7 @@
 
 ghost use Rattle.std.specs.Prelude.{◌≡◌, ◌≢◌, ◌≤◌, ◌<◌, ◌-◌, ◌^◌, ℕ, List, ◌∷◌, if◌then◌else◌, Some, None};
 ghost use Rattle.tt_span.specs.Time.{max_time};
-ghost use Rattle.tt_span.specs.Drift.{AgreesWith, KeepsDrift, Moment};
+ghost use Rattle.tt_span.specs.Drift.{AgreesWith, KeepsDrift, Moment, distance};
 ghost use Rattle.tt_span.specs.Interval.{Holds};
 ghost use Rattle.tt_publish.specs.Reading.{CanBeReadAt, reading_at};
 ghost use Rattle.tt_shared.specs.declared.bases.SlewedBase.{SlewedBase as TheBase};
@@ -12,8 +12,9 @@ ghost use Rattle.tt_shared.specs.Seeing.{IsSeen};
 ghost use Rattle.tt_shared.specs.Slot.{IsShared, IsSlotOf, no_base};
 ghost use Rattle.tt_consistency.specs.Reads.{IsNoEarlier};
 ghost use Rattle.tt_consistency.specs.Timeline.{HeldTrueTime};
+ghost use Rattle.tt_host.specs.Slew.{KeepsSlew};
 ghost use Rattle.tt_host.specs.declared.slews.SlewLook.{SlewLook as TheLook};
-ghost use Rattle.tt_sharing.specs.Slewed.{BothClocks, IsAtLook, KeepsSlew, base_by, by_raw, by_slewed, is_forward, slew_drift, slewed_drift, span_over, with_slewed};
+ghost use Rattle.tt_sharing.specs.Slewed.{BothClocks, IsAtLook, base_by, by_raw, by_slewed, is_forward, slew_drift, slewed_drift, span_over, with_slewed};
 
 use crate::shares::usable_until;
 use tt_host::SlewLook;
@@ -119,13 +120,14 @@ pub fn slewed_laws()
 
     // Where the machine's clock kept its drift bound between two moments, and CLOCK_MONOTONIC its bound against that clock,
     // CLOCK_MONOTONIC kept the drift of the second base.
-    ensures drift { (drift slew : ℕ) (a b : BothClocks) → AgreesWith drift (by_raw a) (by_raw b) → KeepsSlew slew a b →
+    ensures drift { (drift slew : ℕ) (a b : BothClocks) → AgreesWith drift (by_raw a) (by_raw b) → KeepsSlew slew (distance a.raw b.raw) (distance a.slewed b.slewed) →
         AgreesWith (slewed_drift drift slew) (by_slewed a) (by_slewed b) }
 
     // So a reading by the second base, no earlier than its look, holds the true time of its own moment.
     ensures holds { (shared : TheSpan) (look : TheLook) (slew most : ℕ) (base : TheBase) (at now : BothClocks) (moments : List Moment) →
         IsShared shared → base_by shared look slew most ≡ Some base → IsAtLook look at →
-        HeldTrueTime moments shared.fused → KeepsDrift shared.drift (by_raw now ∷ by_raw at ∷ moments) → KeepsSlew slew now at →
+        HeldTrueTime moments shared.fused → KeepsDrift shared.drift (by_raw now ∷ by_raw at ∷ moments) →
+        KeepsSlew slew (distance now.raw at.raw) (distance now.slewed at.slewed) →
         IsNoEarlier moments shared.fused at.time → at.time ≤ now.time → now.time ≤ max_time → CanBeReadAt base.fused now.slewed →
         Holds (reading_at base.drift base.fused now.slewed) now.time }
 
