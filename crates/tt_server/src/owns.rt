@@ -4,12 +4,11 @@ ghost use Rattle.std.specs.Prelude.{◌≡◌};
 ghost use Rattle.std.specs.List.{list_any};
 ghost use Rattle.std.specs.declared.net.socket_addr.SocketAddr.TheVariants.{V4, V6};
 ghost use Rattle.std.specs.Net.Addr.{ipv4_octets, ipv6_segments};
-ghost use Rattle.tt_settings.specs.Socket.{is_loopback};
 ghost use Rattle.tt_server.specs.Own.{IsOwn, families_at, first_reached, has_four, instead_of, is_four, own_of, reaches, suits, suits_all, tells_no_six};
 
 use crate::faults::ServerFault;
 use std::net::{IpAddr, Ipv4Addr, Ipv6Addr, SocketAddr};
-use tt_settings::MasterSettings;
+use tt_settings::{MasterSettings, is_loopback};
 
 /// An address of its own for the socket for polls.
 #[derive(Clone, Copy)]
@@ -70,16 +69,6 @@ fn tells_no_six(code: Option<i32>) -> bool
     match code {
         Some(code) => code == 97 || code == 99,
         None => false,
-    }
-}
-
-/// Whether an address is one of this host.
-fn is_loopback(address: SocketAddr) -> bool
-    ensures { result ≡ is_loopback address }
-{
-    match address {
-        SocketAddr::V4(four) => four.ip().octets()[0] == 127,
-        SocketAddr::V6(six) => six.ip().segments() == [0, 0, 0, 0, 0, 0, 0, 1],
     }
 }
 
