@@ -1,4 +1,3 @@
 pub mod Refusing
 pub mod Ageing
-pub mod Comparing
 pub mod Opening

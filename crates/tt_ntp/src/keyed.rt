@@ -11,9 +11,10 @@ ghost use Rattle.tt_ntp.specs.declared.replies.Reply.{Reply};
 use crate::decoding::decode;
 use crate::faults::NtpFault;
 use crate::fields::short_at;
-use crate::keys::{DIGEST_LEN, PacketKey};
+use crate::keys::PacketKey;
 use crate::queries::{PACKET_LEN, Query, encode_request};
 use crate::replies::Reply;
+use tt_seal::is_same_secret;
 
 /// The length of a request and of a reply under a key, in bytes.
 pub const KEYED_LEN: usize = 72;
@@ -35,18 +36,6 @@ pub fn encode_keyed(nonce: u64, key: &PacketKey) -> [u8; KEYED_LEN]
     bytes
 }
 
-/// Whether two digests are equal. It reads each of their bytes, also behind a byte that differs.
-fn are_same(digest: &[u8], expected: &[u8; DIGEST_LEN]) -> bool
-    requires { length digest.now ≡ 20 }
-    ensures { result ≡ bytes_eq digest.now expected.now }
-{
-    let mut differing = 0;
-    'bytes: for i in 0..DIGEST_LEN {
-        differing |= digest[i] ^ expected[i];
-    }
-    differing == 0
-}
-
 /// Whether the digest behind a packet and the number of a key is that of the packet under the key.
 fn has_digest(bytes: &[u8], key: &PacketKey) -> bool
     requires { length bytes.now ≡ 72 }
@@ -54,7 +43,7 @@ fn has_digest(bytes: &[u8], key: &PacketKey) -> bool
 {
     let (packet, _) = bytes.split_at(PACKET_LEN);
     let (_, digest) = bytes.split_at(DIGEST_AT);
-    are_same(digest, &key.digest(packet))
+    is_same_secret(digest, &key.digest(packet))
 }
 
 /// What the reply to the query says under the key.

@@ -24,8 +24,10 @@ mod faults;
 mod hmac;
 mod keys;
 mod sealing;
+mod secrets;
 
 pub use faults::SealFault;
 pub use hmac::hmac_sha256;
 pub use keys::{KEY_LEN, Key};
 pub use sealing::{EXTRA_LEN, MAX_ENVELOPE, MAX_MESSAGE, Opened, key_with, open, seal, seal_laws};
+pub use secrets::is_same_secret;

@@ -2,12 +2,12 @@
 
 ghost use Rattle.std.specs.Prelude.{◌≡◌, ◌≢◌, ◌+◌, ◌<◌, ◌≤◌, ℕ, List, Contains, length, take, drop, IfOk, option_copied};
 ghost use Rattle.std.specs.Int.{w32, from_be_bytes};
-ghost use Rattle.std.specs.Str.{bytes_eq};
 ghost use Rattle.tt_seal.specs.Sealing.{SealKey, IsKey, IsBytes, tag_of as tag_under, sealing_of, key_with as key_among, HaveOwnNumbers, opened_as, opened_of, IsOpened};
 ghost use Rattle.tt_seal.specs.declared.sealing.Opened.{Opened};
 
 use crate::faults::SealFault;
 use crate::keys::Key;
+use crate::secrets::is_same_secret;
 use arrayvec::ArrayVec;
 
 /// The most bytes of a message that is sealed.
@@ -60,18 +60,6 @@ pub fn seal(message: &[u8], key: &Key) -> ArrayVec<u8, MAX_ENVELOPE>
     envelope
 }
 
-/// Whether two tags are equal. It reads each of their bytes, also behind a byte that differs.
-fn are_same(tag: &[u8], expected: &[u8; TAG_LEN]) -> bool
-    requires { length tag.now ≡ 16 }
-    ensures { result ≡ bytes_eq tag.now expected.now }
-{
-    let mut differing = 0;
-    'bytes: for i in 0..TAG_LEN {
-        differing |= tag[i] ^ expected[i];
-    }
-    differing == 0
-}
-
 /// The number in the four bytes from place `at` on, the highest byte first.
 fn number_at(bytes: &[u8], at: usize) -> u32
     requires { at + 4 ≤ length bytes.now }
@@ -117,7 +105,7 @@ fn read(bytes: &[u8], keys: &[Key]) -> Result<Opened, SealFault>
         return Err(SealFault::UnknownKey);
     };
     let (part, tag) = bytes.split_at(len + NUMBER_LEN);
-    if are_same(tag, &tag_of(key, part)) {
+    if is_same_secret(tag, &tag_of(key, part)) {
         let message = message_of(&bytes[..len]);
         Ok(Opened { number, message })
     } else {
