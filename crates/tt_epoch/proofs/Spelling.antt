@@ -1,5 +1,5 @@
 -- The text of an epoch, and no other, is read as it.
-use Rattle.std.proofs.Common.{◌≡◌, ℕ, List, [], ◌∷◌, ◌++◌, length, Option, Some, None, refl, sym, ap, arith, ◌∙◌}
+use Rattle.std.proofs.Common.{◌≡◌, ◌<◌, ◌^◌, ℕ, List, [], ◌∷◌, ◌++◌, length, Option, Some, None, refl, sym, ap, arith, ◌∙◌}
 use Rattle.std.specs.Prelude.{MatchOption}
 use Rattle.std.specs.Fmt.{decimal}
 use Rattle.std.proofs.lemmas.List.{length_push}
@@ -23,8 +23,8 @@ cancel_last (x ∷ a) (y ∷ b) c e =
 
 -- what is left of a text when its two ends are taken off
 pub read-body : (text rest digits : List ℕ) → text ≡ head ++ rest → rest ≡ digits ++ 10 ∷ [] → (r : Option ℕ) →
-    MatchOption r ((n : ℕ) → IsEpoch n → digits ≡ decimal n → ⊥) (λ n. digits ≡ decimal n) →
+    MatchOption r ((n : ℕ) → n < 2 ^ 64 → digits ≡ decimal n → ⊥) (λ n. (n < 2 ^ 64) × (digits ≡ decimal n)) →
     MatchOption r ((epoch : ℕ) → IsEpoch epoch → text ≡ text_of epoch → ⊥) (λ epoch. text ≡ text_of epoch)
 read-body text rest digits front back None none = λ epoch fits is.
     none epoch fits (cancel_last digits (decimal epoch) 10 (sym back ∙ cancel_left head rest (decimal epoch ++ 10 ∷ []) (sym front ∙ is)))
-read-body text rest digits front back (Some n) same = front ∙ ap (λ (t : List ℕ). head ++ t) (back ∙ ap (λ (d : List ℕ). d ++ 10 ∷ []) same)
+read-body text rest digits front back (Some n) is = front ∙ ap (λ (t : List ℕ). head ++ t) (back ∙ ap (λ (d : List ℕ). d ++ 10 ∷ []) is.1)

@@ -6,6 +6,7 @@ ghost use Rattle.tt_epoch.specs.Text.{IsEpoch, head, text_of};
 
 use arrayvec::ArrayString;
 use itoa::Buffer;
+use tt_files::number_of;
 
 /// The text of an epoch file: `tt-epoch 1 `, the epoch in decimal digits, and a line feed. At most 32 bytes.
 pub fn epoch_text(epoch: u64) -> ArrayString<32>
@@ -28,22 +29,4 @@ pub fn epoch_of(text: &[u8]) -> Option<u64>
     let rest = text.strip_prefix(b"tt-epoch 1 ")?;
     let digits = rest.strip_suffix(b"\n")?;
     number_of(digits)
-}
-
-/// The number that these bytes spell in decimal digits, as it is written.
-fn number_of(digits: &[u8]) -> Option<u64>
-    ensures { MatchOption result ((n : ℕ) → IsEpoch n → digits.now ≡ decimal n → ⊥) (λ n. digits.now ≡ decimal n) }
-{
-    let Ok(text) = str::from_utf8(digits) else {
-        return None;
-    };
-    let Ok(number) = text.parse::<u64>() else {
-        return None;
-    };
-    let mut buffer = Buffer::new();
-    if buffer.format(number) == text {
-        Some(number)
-    } else {
-        None
-    }
 }

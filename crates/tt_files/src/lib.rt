@@ -15,17 +15,19 @@
 //! - `facts`: what is known of a file, and what is decided by it.
 //! - `locking`: `lock_at`.
 //! - `opening`: `open_regular`, `create_new` and `replace`.
-//! - `processes`: `process_owner`. `reasons`: `Reason`, why a call failed.
+//! - `numerals`: `number_of`. `processes`: `process_owner`. `reasons`: `Reason`, why a call failed.
 #![tactic(auto)]
 
 mod facts;
 mod locking;
+mod numerals;
 mod opening;
 mod processes;
 mod reasons;
 
 pub use facts::{Facts, Kind, Way, is_only_at, is_same_file, way_of};
 pub use locking::lock_at;
+pub use numerals::number_of;
 pub use opening::{create_new, facts_at, facts_of, link_facts_at, open_regular, replace};
 pub use processes::process_owner;
 pub use reasons::Reason;

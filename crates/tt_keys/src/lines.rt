@@ -8,6 +8,7 @@ ghost use Rattle.tt_keys.specs.Line.{line_of as line_with, is_name as is_name_of
 
 use arrayvec::ArrayVec;
 use itoa::Buffer;
+use tt_files::number_of;
 use tt_seal::{KEY_LEN, Key};
 
 /// The most bytes of a key's line without a name.
@@ -28,22 +29,17 @@ pub(crate) fn cut(bytes: &[u8], byte: u8) -> Option<(&[u8], &[u8])>
     None
 }
 
-/// The number that these bytes spell in decimal digits, as it is written.
-fn number_of(digits: &[u8]) -> Option<u32>
+/// The number of a key that these bytes spell in decimal digits, as it is written.
+fn key_number(digits: &[u8]) -> Option<u32>
     ensures { MatchOption result ((n : ℕ) → n < 2 ^ 32 → digits.now ≡ decimal n → ⊥) (λ n. (n < 2 ^ 32) × (digits.now ≡ decimal n)) }
 {
-    let Ok(text) = str::from_utf8(digits) else {
+    let Some(number) = number_of(digits) else {
         return None;
     };
-    let Ok(number) = text.parse::<u32>() else {
+    let Ok(number) = u32::try_from(number) else {
         return None;
     };
-    let mut buffer = Buffer::new();
-    if buffer.format(number) == text {
-        Some(number)
-    } else {
-        None
-    }
+    Some(number)
 }
 
 /// The bytes of a key in hexadecimal digits, in lower case.
@@ -119,7 +115,7 @@ pub fn key_of_line(line: &[u8]) -> Option<Key>
     let Some((numeral, rest)) = cut(line, b' ') else {
         return None;
     };
-    let Some(number) = number_of(numeral) else {
+    let Some(number) = key_number(numeral) else {
         return None;
     };
     if rest.len() < DIGITS {

@@ -6,11 +6,11 @@ use Rattle.tt_keys.proofs.lines.key_of_line.Goals as goal
 pub returns-in_default : goal.returns-in_default
 returns-in_default c = record { read = none-uncut c.args.line.now c.in_default.ensures }
 
-pub returns-in_default-number_of : goal.returns-in_default-number_of
-returns-in_default-number_of c = record {
+pub returns-in_default-key_number : goal.returns-in_default-key_number
+returns-in_default-key_number c = record {
   read = λ key h.
       let p = parts c.args.line.now c.in-Some.numeral.now c.in-Some.rest.now c.in-Some.ensures.0 c.in-Some.ensures.1 key h in
-      c.in_default-number_of.ensures key.number h.in_range.number_fits p.numeral_is;
+      c.in_default-key_number.ensures key.number h.in_range.number_fits p.numeral_is;
 }
 
 pub returns-then-rest-lt-DIGITS : goal.returns-then-rest-lt-DIGITS
@@ -38,9 +38,9 @@ returns-in_default-bytes_of c = record {
 
 pub returns : goal.returns
 returns c =
-    let number = c.in-Some-number_of.ensures in
+    let number = c.in-Some-key_number.ensures in
     let bytes = c.in-Some-bytes_of.ensures in
-    let line = key_line c.args.line.now c.in-Some.numeral.now c.in-Some.rest.now c.in-Some-number_of.number c.in-Some-bytes_of.bytes c.in-Some.ensures.1 number.1 number.0
+    let line = key_line c.args.line.now c.in-Some.numeral.now c.in-Some.rest.now c.in-Some-key_number.number c.in-Some-bytes_of.bytes c.in-Some.ensures.1 number.1 number.0
     (sym c.split_at.ensures.front ∙ bytes.2) bytes.0 bytes.1
     (subst IsEnding c.split_at.ensures.back (c.is_ending.ensures.0 c.if-not-is_ending.false)) in
     record { read = subst (λ key. IsKeyLine c.args.line.now key) (sym c.new.ensures.value) line }
