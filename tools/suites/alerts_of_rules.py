@@ -19,9 +19,9 @@ def not_within(metric, rounds=3):
     return f"truetime_{metric} unless truetime_{metric} <= {rounds} * scalar(truetime:round_seconds)"
 
 
-def unwritten(files):
-    """That these files are older than four rounds."""
-    return f"timestamp({files}) - node_textfile_mtime_seconds > 4 * scalar(truetime:round_seconds)"
+def unwritten(files, seconds="4 * scalar(truetime:round_seconds)"):
+    """That these files are older than four rounds, or than so many seconds."""
+    return f"timestamp({files}) - node_textfile_mtime_seconds > {seconds}"
 
 
 def gone(files):
@@ -44,7 +44,7 @@ PAST_DRIFT = "abs(truetime_source_clock_rate_ratio) - truetime_source_clock_rate
 WANTED = {
     "TruetimeStatusOld": (unwritten(MACHINES), "1m", PAGE),
     "TruetimeStatusGone": (gone(MACHINES), "1m", PAGE),
-    "TruetimeMasterStatusOld": (f"{unwritten(MASTERS)} or {gone(MASTERS)}", "1m", TICKET),
+    "TruetimeMasterStatusOld": (f'{unwritten(MASTERS, "5")} or {gone(MASTERS)}', "1m", TICKET),
     "TruetimeAssumptionBroken": (f'{risen("broken_lives_total", "15m")} or {risen("assumption_breaks_total", "15m")}', AT_ONCE, PAGE),
     "TruetimeRestarted": ("changes(truetime_epoch[15m]) > 0", AT_ONCE, TICKET),
     "TruetimeEpochFell": ("resets(truetime_epoch[1d]) > 0", AT_ONCE, PAGE),

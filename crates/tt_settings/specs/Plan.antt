@@ -46,7 +46,7 @@ clocking_in t = do
 
 -- the pause between two rounds of polls where no other is given, in nanoseconds
 abbrev pub default_poll : ℕ
-default_poll = second
+default_poll = 250 * millisecond
 
 -- how long a round waits for answers where nothing else is given, in nanoseconds
 abbrev pub default_wait : ℕ

@@ -22,7 +22,7 @@ use tt_span::{Drift, MAX_TIME, Span};
 const DEFAULT_SLEW: u32 = 1000;
 
 /// The pause between two rounds of polls if no other is given, in nanoseconds.
-const DEFAULT_POLL: u64 = SECOND;
+const DEFAULT_POLL: u64 = 250 * MILLISECOND;
 
 /// How long a round waits for answers if nothing else is given, in nanoseconds.
 const DEFAULT_WAIT: u64 = 250 * MILLISECOND;

@@ -211,7 +211,7 @@ impl Settings {
 /// The keys `machine` (0 to 7), `masters` or `master` (from one to 16), `listen` (an address) and `state` (a folder) have
 /// to be there. The others may be absent: `faulty` (default: as many as the number of masters allows), `workers` (1 to 32;
 /// default 32), `drift` (parts per million; default 200), `clock` (`"raw"` or `"monotonic"`; default `"raw"`), `slew` (parts
-/// per million, up to 90,000; default 1000), `poll` (default `"1s"`), `wait` (default `"250ms"`), `floor_ahead` (default `"1s"`), `idle` (default `"60s"`), `lease_lo` and `lease_hi` (nanoseconds; default: the whole of time),
+/// per million, up to 90,000; default 1000), `poll` (default `"250ms"`), `wait` (default `"250ms"`), `floor_ahead` (default `"1s"`), `idle` (default `"60s"`), `lease_lo` and `lease_hi` (nanoseconds; default: the whole of time),
 /// `stampers` (the two ends of an interval, as `[5, 6]`, in nanoseconds; default: none), `log` (`"text"` or `"json"`;
 /// default `"text"`), `on_break` (`"end"` or `"warn"`; default `"end"`), `max_width` (from 0 to an hour, as `"10ms"`;
 /// default: no limit), `socket`, `shared`, `status`, `evidence`, `vmclock` and `keys` (paths; default: none). `listen` is
