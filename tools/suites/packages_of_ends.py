@@ -253,6 +253,76 @@ def statuses(trial):
     trial.equal("another command", run([SCRIPT, trial.program, "read", "-"], b"now\n").answer, trial.command("read", "-").answer)
 
 
+# The statuses of one start after the other, and for how long the script of a unit sleeps before it ends, in seconds.
+STARTS = [(4, [1]), (4, [2]), (4, [4]), (2, []), (0, []), (3, []), (1, []), (4, [8]), (4, [16]), (4, [32]), (4, [60]), (4, [60])]
+
+
+class Failing:
+    """A program in the place of a machine in a unit, which ends at once, and a `sleep` that writes down what it is told and goes on so long."""
+    TTD, SLEEP = "#!/bin/sh\nexit $(cat HERE/status)\n", '#!/bin/sh\necho "$1" >>HERE/slept\nexec FOR\n'
+
+    def __init__(self, trial, script, lasts="true"):
+        self.here = os.path.join(trial.room, f"{os.path.basename(script)}-{lasts[:5]}")
+        self.script, self.pause, self.slept = script, f"{self.here}/run/pause", f"{self.here}/slept"
+        os.makedirs(f"{self.here}/run")
+        for name, text in (("ttd", self.TTD), ("sleep", self.SLEEP.replace("FOR", lasts))):
+            write(f"{self.here}/{name}", text.replace("HERE", self.here).encode())
+            os.chmod(f"{self.here}/{name}", 0o755)
+        self.env = {**os.environ, "PATH": f"{self.here}:{os.environ['PATH']}", "RUNTIME_DIRECTORY": f"{self.here}/run"}
+
+    def begin(self, status, command="serve", **env):
+        """Starts it, to end with this status."""
+        write(f"{self.here}/status", str(status).encode())
+        write(self.slept, b"")
+        environment = {key: value for key, value in {**self.env, **env}.items() if value is not None}
+        return subprocess.Popen([*BEFORE, self.script, f"{self.here}/ttd", command, "a"], env=environment, stdin=subprocess.DEVNULL,
+                                stderr=subprocess.PIPE, start_new_session=True)
+
+    def end(self, status, command="serve", **env):
+        """The status and the pauses of a start to its end, and what it said."""
+        with self.begin(status, command, **env) as process:
+            said = process.communicate(timeout=10)[1].decode()
+        return process.returncode, list(map(int, read_text(self.slept).split())), said
+
+
+def wrong_pauses(trial, script, *_):
+    """What is wrong with the pauses of the script of a unit, by STARTS, and then with a file of the last one that says nothing."""
+    failing = Failing(trial, script)
+    for status, wanted in STARTS:
+        if (found := failing.end(status)) != (status, wanted, "".join(f"<4>run: the next start is in {pause} s\n" for pause in wanted)):
+            yield f"status {status}, {wanted}: {found}"
+    for text in "", "x y\n", "7\n":
+        write(failing.pause, text.encode())
+        if (found := failing.end(4)[:2]) != (4, [1]):
+            yield f"behind {text!r}: {found}"
+    for what, command, env in ("another command", "master", {}), ("no unit", "serve", {"RUNTIME_DIRECTORY": None}):
+        if (found := failing.end(4, command, **env)) != (4, [], ""):
+            yield f"{what}: {found}"
+
+
+def wrong_end_of_pause(trial, script, *_):
+    """What is wrong with the end of a pause by a signal. The file then names the script, which packaging/await looks for."""
+    failing = Failing(trial, script, "/bin/sleep 60")
+    for number in signal.SIGTERM, signal.SIGINT:
+        with failing.begin(4) as process:
+            eventually(lambda: read_text(failing.slept))
+            if (found := read_text(failing.pause).split()[:1]) != [str(process.pid)]:
+                yield f"the file names {found} in place of {process.pid}"
+            seconds, left = end_of(process.pid, lambda process=process, number=number: process.send_signal(number))
+            for one in left:
+                os.kill(one, signal.SIGKILL)
+        if left or seconds > BUSY_S or process.returncode != 0:
+            yield f"{number.name}: status {process.returncode} behind {seconds:.1f} s, and {left} are left"
+
+
+@suite.case()
+def pauses(trial):
+    """The script of a unit sleeps longer with each start that a device refuses, up to a minute, and ends at once at a signal."""
+    yield from wrong_pauses(trial, SCRIPT)
+    yield from by_a_calm_host(lambda: wrong_end_of_pause(trial, SCRIPT))
+    trial.holds(True, "")
+
+
 # Scripts that are wrong: what stands in place of what, which check sees it, and what that says.
 WRONG = {
     "kills the program": ("end() { exec 4>&-; }", 'end() { kill -KILL "$ttd"; }', wrong_ends, "SIGTERM", "ended 0 times"),
@@ -265,6 +335,15 @@ WRONG = {
     "leaves SIGXFSZ": ("trap '' XFSZ\n", "", wrong_ends, "SIGTERM", "ignored are ['SIGINT', 'SIGTERM']"),
     "leaves SIGTERM": ("ignored='INT TERM'", "ignored=INT", wrong_ends, "SIGTERM to the group", "ignored are ['SIGINT', 'SIGXFSZ']"),
     "gives the other end away": ("3<&- 4>&- &", "3<&- &", wrong_ends, "the end of the script", "are left"),
+    "sleeps as long each time": ("2 * last", "last", wrong_pauses, "", "status 4, [2]: (4, [1]"),
+    "sleeps for hours": ("last < 30 ? 2 * last : 60", "2 * last", wrong_pauses, "", "status 4, [60]: (4, [64]"),
+    "sleeps with each status": ('"$2 $status ${RUNTIME_DIRECTORY:+unit}" != "serve 4', '"$2 4 ${RUNTIME_DIRECTORY:+unit}" != "serve 4', wrong_pauses,
+                                "", "status 2, []"),
+    "sleeps outside of units": ("${RUNTIME_DIRECTORY:+unit}", "unit", wrong_pauses, "", "no unit"),
+    "believes its file": ("    case $last in *[!0-9]*) last=0 ;; esac\n", "", wrong_pauses, "", "behind 'x y"),
+    "sleeps on behind a signal": ('|| wait "$sleeper"\n', '|| wait "$sleeper"; wait "$sleeper"\n', wrong_end_of_pause, "", "are left"),
+    "leaves who sleeps": ('{ kill "$sleeper"; status=0; }', "status=0", wrong_end_of_pause, "", "are left"),
+    "names nobody": ('echo "$$ $pause"', 'echo "0 $pause"', wrong_end_of_pause, "", "the file names ['0']"),
     "holds both ends": ("\nexec 3<&-\n", "\n", wrong_ends, "SIGTERM", "ends of its input"),
     "holds the input by another process": ("exec 4>/proc/self/fd/3\n", "exec 4>/proc/self/fd/3\nsleep 60 3<&- &\n", wrong_ends, "the end of the script",
                                            "are left"),

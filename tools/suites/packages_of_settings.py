@@ -2,6 +2,8 @@
 import os
 import re
 import signal
+import subprocess
+import threading
 import time
 import tomllib
 
@@ -80,8 +82,9 @@ OTHERS = {
 SCRIPTS = {
     "await": ["end=$(($(seconds) + 30))", "ttd ask \"$address\" now --retry 0 ", "    sleep 0.05\n", "kill -0 \"$MAINPID\"", " timeout 1 sh ",
               "echo \"<4>the machine of $1 gives no time yet\" >&2\nexit 1\n", "RES_OPTIONS='timeout:1 attempts:1' ttd serve --check"],
-    "stands-still": ["limit=$((10 * round / 1000000000 + 30))\n",
-                     "find \"$status\" ${shared:+\"$shared\"} \"$(of state)/epoch\" -newermt \"-$limit seconds\"",
+    "stands-still": ["limit=$((10 * round / 1000000000 + 60))\n",
+                     "pause=/run/truetime/$(basename \"$1\" .toml)/pause\n",
+                     "find \"$status\" ${shared:+\"$shared\"} \"$(of state)/epoch\" \"$pause\" -newermt \"-$limit seconds\"",
                      "timeout 5 ttd ask \"$address\" now --retry 0 ", "for _ in 1 2 3; do\n", "|| exit 2\n", "RES_OPTIONS='timeout:1 attempts:1' ttd serve --check"],
 }
 # The examples: all paths are in the folders of the units.
@@ -248,6 +251,28 @@ def awaits_the_shared_file(trial):
         trial.equal(f"{name}: asked", read_text(os.path.join(here, "asked")), "ask 127.0.0.1:5601 now --retry 0\n")
         looks = read_text(os.path.join(here, "looks")) if has_shared else ""
         trial.equal(f"{name}: looks", looks, f"read {here}/shared now\n" * wanted)
+
+
+@suite.case()
+def awaits_who_sleeps(trial):
+    """packaging/await, which here gives up at once, goes on while packaging/run sleeps before it ends, and asks nobody; not for another process."""
+    text, script = read_text(in_top("packaging/await")), os.path.join(trial.room, "await")
+    trial.equal("places", text.count("+ 30))"), 1)
+    write(script, text.replace("+ 30))", "+ 0))").encode())
+    os.chmod(script, 0o755)
+    says = AWAITED.replace("SHARED", "").replace("HERE", trial.room)
+    write(os.path.join(trial.room, "ttd"), says.encode())
+    os.chmod(os.path.join(trial.room, "ttd"), 0o755)
+    for whose, least, most in ((0, 2, 20), (1, 0, 1.9)):
+        with subprocess.Popen(["sleep", "2"]) as process:
+            write(os.path.join(trial.room, "pause"), f"{process.pid + whose} 2\n".encode())
+            environment = {**os.environ, "PATH": f"{trial.room}:{os.environ['PATH']}", "MAINPID": str(process.pid), "RUNTIME_DIRECTORY": trial.room}
+            reaper = threading.Thread(target=process.wait, daemon=True)
+            reaper.start()
+            began = time.monotonic()
+            ran = run([script, "settings"], env=environment)
+            trial.between(f"{whose}: seconds", least - 0.2, time.monotonic() - began, most)
+            trial.equal(f"{whose}: status, asked", (ran.status, os.path.exists(os.path.join(trial.room, "asked"))), (1, False))
 
 
 @suite.case()

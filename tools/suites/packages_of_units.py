@@ -263,12 +263,12 @@ def watched(trial):
         machine.start()
         os.kill(machine.program, signal.SIGSTOP)
         time.sleep(0.1)
-        for seconds, wanted in (0, []), (40, []), (44, restart):  # ten rounds of 1.25 s, and half a minute
+        for seconds, wanted in (0, []), (63, []), (67, restart):  # ten rounds of half a second, and a minute
             age(host, seconds)
             ran, told = watch.told(*WATCH)
             trial.equal(f"one that stands still for {seconds} s", (ran.status, told), (0 if wanted else 1, wanted))
         put(host, GOOD, 'poll = "60s"')
-        for seconds, wanted in (0, []), (600, []), (640, restart):
+        for seconds, wanted in (0, []), (660, []), (667, restart):
             age(host, seconds)
             trial.equal(f"a poll each minute, and no status for {seconds} s", watch.told(*WATCH)[1], wanted)
         os.utime(f"{host.root}/{EPOCH}")
