@@ -225,6 +225,7 @@ def manual(trial):
         ran = run(["man", "--warnings", "-E", "UTF-8", "-l", f"{root}/usr/share/man/{page}.gz"], env=env)
         trial.equal(f"warnings of {page}", (ran.status, ran.error), (0, ""))
         shown[page] = re.sub(".\b", "", ran.said)
+        trial.equal(f"lines of {page} beyond 80 columns", [line for line in shown[page].splitlines() if len(line) > 80], [])
     text = gzip.decompress(read(f"{root}/usr/share/man/man5/node.toml.5.gz")).decode()
     keys = [key for line in re.findall(r"^\.TP\n(\\fB[a-z].*)$", text, re.MULTILINE) for key in re.findall(r"\\fB(\w+)\\fR", line)]
     trial.equal("keys of node.toml.5", keys, [*SETTINGS, "address", "key"])
