@@ -2,7 +2,7 @@
 
 Read are the commands of README.md, docs/PROVED.md and examples/README.md with the lines below them, the tables of the last, and the picture
 docs/commit-wait.svg. Then standard error has to say where an input is refused, and why. The service of README.md is run in a network of its
-own, and asked as stands there; nothing of it is left.
+own, and asked as stands there; nothing of it is left, nor of any command of README.md in a clone.
 """
 import os
 import re
@@ -12,6 +12,7 @@ import time
 
 from harness.program import TOP, in_top, read_text, run
 from harness.suite import Suite
+from lab.documented import blocks_in
 
 suite = Suite(__name__, at_once=os.cpu_count() or 1)
 COUNTS = ["events", "refused", "fusions", "readings", "wrong", "released", "violations"]
@@ -120,6 +121,50 @@ def service(trial):
     trial.holds(len(lines) == 2 and ran.returncode == 130 and "Ctrl-C" in told, f"status {ran.returncode}: {told}{error}")
     trial.equal("left", os.listdir(trial.room), [])
     trial.count(commands=1)
+
+
+# A clone of what is in the repository now, with the built program as it keeps one that is not proved.
+CLONE = """
+git -C "$1" ls-files -z | (cd "$1" && xargs -0 cp --parents -t "$2")
+cd "$2"
+git init -q
+git add -A
+mkdir -p crates/ttd/out
+cp "$3" crates/ttd/out/ttd.unproved
+"""
+
+
+def told_in_readme():
+    """The commands of README.md that run the program, without proofs, and its example for Python, as lines of bash."""
+    text = read_text("README.md")
+    found = re.findall(r"^    (?:\$ )?(\./ttd .*)$", text, re.MULTILINE) + re.findall(r"`(\./ttd [^`]*<[^`]*)`", text)
+    python = re.search(r"`PYTHONPATH=\S+ python3 -B`", text)[0].strip("`")
+    example = next(block for block in blocks_in(text) if block.startswith("import truetime"))
+    return [line.replace("./ttd ", "./ttd --unproved ").replace("--unproved --unproved", "--unproved") for line in found] + [
+        f"{python} <<'END'\n{example}END"]
+
+
+@suite.case(root=True, programs=("git", "unshare", "nsenter", "ip"))
+def leaves_nothing(trial):
+    """What README.md tells to run leaves no file in a clone, but in its folders `out`; nor does the service once it is ended."""
+    clone, commands = os.path.join(trial.room, "clone"), told_in_readme()
+    os.mkdir(clone)
+    trial.equal("clone", run(["sh", "-ec", CLONE, "sh", TOP, clone, os.path.abspath(trial.program)], seconds=60).answer, ("", 0))
+    env = {**os.environ, "TMPDIR": trial.room, "PYTHONDONTWRITEBYTECODE": ""}
+    with subprocess.Popen(["unshare", "-n", "sh", "-c", "ip link set lo up && exec examples/service/run"], env=env, cwd=clone,
+                          stdout=subprocess.DEVNULL, stderr=subprocess.DEVNULL, preexec_fn=hear_interrupts) as service:
+        inside = ["nsenter", "-n", "-t", str(service.pid), "bash", "-c"]
+        for _ in range(100):
+            if run([*inside, next(line for line in commands if " now" in line)], cwd=clone).status == 0:
+                break
+            time.sleep(0.1)
+        for command in commands:
+            ran = run([*inside, command], seconds=30, cwd=clone, env=env)
+            trial.check(command, ran.status == 0, f"status {ran.status}: {ran.said[-300:]}{ran.error[-300:]}")
+        service.send_signal(signal.SIGINT)
+    found = run(["git", "-C", clone, "status", "--porcelain", "--ignored"]).said.splitlines()
+    trial.equal("files that are left", [line for line in found if not line.startswith("A ") and not line.endswith("/out/")], [])
+    trial.check("commands", len(commands) >= 8, f"{len(commands)} are found")
 
 
 @suite.family
