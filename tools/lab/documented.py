@@ -1,4 +1,5 @@
-"""Runs the fleet of docs/OPERATING.md as it is written there: its commands make the keys, and its files stand on the hosts."""
+"""Runs the fleet of docs/OPERATING.md as it is written there: its commands make the keys, its files stand on the hosts, and each master is over a
+chronyd of its host, by the file of docs/MASTERS.md for a host with a receiver."""
 import os
 import re
 import time
@@ -6,7 +7,8 @@ import typing
 
 from harness.processes import Fault
 from harness.program import in_top, read_text, run, write
-from lab.folders import HEAD, WRONG, Folder
+from lab.chronied import Chronied
+from lab.folders import HEAD, WRONG
 from lab.users import table
 
 HEADING = "## Three data centres, five masters, sixty machines"
@@ -15,13 +17,26 @@ MACHINES = 60
 LONGEST_S = 60.0
 #: The machine whose file stands in the document, and how far the numbers of the keys of two masters are apart.
 SHOWN, APART = 17, 1000
+#: How much further off the oscillator of each master's host is than that of the one before, in parts per million.
+RATE = 5.0
 #: How long a way takes from one data centre to another, in milliseconds.
 WAYS = "*.dc1 *.dc2 5\n*.dc1 *.dc3 10\n*.dc2 *.dc3 10\n"
 
 
-def section() -> str:
+def section(heading: str = HEADING) -> str:
+    """The part of OPERATING.md below this heading."""
     text = read_text(in_top("docs/OPERATING.md"))
-    return text.partition(HEADING)[2].partition("\n## ")[0]
+    return text.partition(f"{heading}\n")[2].partition("\n## ")[0]
+
+
+def master_file() -> str:
+    """The file of a master there."""
+    return one_block(section(), "SOURCE=0\n")
+
+
+def chronyd_of_receiver() -> str:
+    """The file of chronyd on a host with a receiver."""
+    return one_block(read_text(in_top("docs/MASTERS.md")), "refclock SOCK")
 
 
 def blocks_in(text: str) -> list[str]:
@@ -58,7 +73,7 @@ def machine_of(shown: str, number: int, addresses: list[str]) -> str:
 def fill(program: str, folder: str) -> int:
     """Fills a folder of hosts, as lab.folders reads it; how many masters there are."""
     text = section()
-    commands, master, machine = (one_block(text, begins) for begins in ("umask", "SOURCE=0\n", "machine = 0\n"))
+    commands, master, machine = one_block(text, "umask"), master_file(), one_block(text, "machine = 0\n")
     addresses = re.findall(r"10\.\d+\.0\.\d+", text.partition("**Keys.**")[0])
     keys = os.path.join(folder, "keys")
     os.mkdir(keys)
@@ -90,7 +105,9 @@ def put(folder: str, host: str, keys: str, name: str, text: str) -> None:
 def tell(program: str, folder: str, say: typing.Callable[[str], None]) -> list[str]:
     """Runs it until each machine has once read rightly and heard all masters; what was wrong. On a busy host its readings are too wide at times."""
     masters = fill(program, folder)
-    with Folder(program, folder) as lab:
+    with Chronied(program, folder) as lab:
+        for place in range(masters):
+            lab.start_chronyd(next(name for name in lab.hosts if name.startswith(f"master-{place}.")), chronyd_of_receiver(), RATE * place)
         machines, rows, end = lab.start(), dict[str, tuple[str, ...]](), time.monotonic() + LONGEST_S
         while (left := [one for one in machines if one.name not in rows or is_early(rows[one.name], masters)]) and time.monotonic() < end:
             rows.update((one.name, one.row()) for one in left)

@@ -1,15 +1,13 @@
 """Runs the files of docs/MASTERS.md as they stand there: chronyd by its files, masters by theirs, and a machine over three of these."""
 import os
-import re
 import tempfile
 import time
 import typing
 
 from harness.program import in_top, read_text, run, write
 from lab import wires
-from lab.clocks import OwnClock, Receivers, compile_clock
-from lab.documented import one_block
-from lab.folders import Folder, Site
+from lab.chronied import Chronied
+from lab.documented import master_file, one_block
 from lab.masters import RECEIVER
 from lab.servers import NO_CLOCK, Chronyd, path_of
 from lab.services import new_key
@@ -36,33 +34,14 @@ def block(begins: str) -> str:
     return one_block(read_text(in_top("docs/MASTERS.md")), begins)
 
 
-class PageLab(Folder):
-    """The hosts of the page, joined by a router; each chronyd has a clock of its own, and no right to set another."""
+class PageLab(Chronied):
+    """The hosts of the page."""
     prefix = wires.PREFIX
-
-    def build(self) -> None:
-        super().build()
-        self.clock_library = compile_clock(self)
-        self.receivers = self.keep(Receivers())
-
-    def start_chronyd(self, name: str) -> None:
-        """By the file that the host has at /etc/chrony/chrony.conf. Whatever it says of a receiver's socket is in the host's own /run."""
-        site: Site = self.hosts[name]
-        for folder in (site.path("run", "chrony"), site.path("lib", "chrony")):
-            os.mkdir(folder, 0o750)
-        clock = OwnClock(os.path.join(site.folder, "clock"), self.clock_library, RATES[name])
-        for path in re.findall(r"^refclock SOCK /run/(\S+)", read_text(site.path("etc", "chrony/chrony.conf")), re.MULTILINE):
-            self.receivers.add(site.path("run", path), clock)
-        with open(os.path.join(site.folder, "chronyd.log"), "ab") as log:
-            running = site.start([*NO_CLOCK, path_of("chronyd"), "-d", "-U", "-u", "root", "-f", "/etc/chrony/chrony.conf"],
-                                 stdout=log, stderr=log, env=clock.environment)
-        self.stack.callback(running.wait)
-        self.stack.callback(running.kill)
 
 
 def fill(program: str, folder: str) -> None:
     """Fills a folder of hosts, as lab.folders reads it."""
-    receiver, asks = block("SOURCE=0\nLISTEN="), block("SOURCE=2\nLISTEN=")
+    receiver, asks = master_file(), block("SOURCE=2\nLISTEN=")
     behind = receiver.replace("SOURCE=0", "SOURCE=1").replace(GPS, BEHIND)
     names = {"gps": GPS, "behind": BEHIND, "asks": ASKS, "machine": MACHINE}
     keys = {name: "" for name in names}
@@ -100,14 +79,11 @@ def tell(program: str, say: typing.Callable[[str], None]) -> typing.Iterator[str
         fill(program, folder)
         yield from parse(ptp + gps.partition("\n")[2], room)
         with PageLab(program, folder) as lab:
-            for name, text in (("gps", gps), ("behind", behind)):
-                os.mkdir(lab.hosts[name].path("etc", "chrony"))
-                write(lab.hosts[name].path("etc", "chrony/chrony.conf"), text.encode())
             servers = [lab.keep(Chronyd(lab.hosts[f"ntp-{number}"], f"ntp-{number}-chronyd", [RECEIVER])) for number in range(len(SERVERS))]
             for server in servers:
                 server.wait_until_synchronised()
-            for name in ("gps", "behind"):
-                lab.start_chronyd(name)
+            for name, text in (("gps", gps), ("behind", behind)):
+                lab.start_chronyd(name, text, RATES[name])
             (machine, ) = lab.start()
             yield from until_all_heard(lab, machine, say)
 

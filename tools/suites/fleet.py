@@ -15,14 +15,14 @@ then alone; stamps have to rise with the terms of their shard.
 
 Then a key is rolled over, one is revoked, and a host goes from open to sealed polls; nobody may be without a reading meanwhile but by the
 start of a machine. A master waits for its address, and an answer from another address is told of. The fleet of docs/OPERATING.md, five masters
-and sixty machines, runs as it is written there. With --long the controls of `tools/fleet
+and sixty machines, runs as it is written there, and so does the smallest fleet, one of whose servers then lies. With --long the controls of `tools/fleet
 control` are run, too: they have to be wrong; and a leap second that chronyd announces comes over a whole fleet: masters are silent from a minute
 before it, nobody reads wrongly till then, and the fleet comes back by itself.
 
 What was wrong is tried once more, since steps have their time and the host may be busy; but no wrong reading, order or stamp.
 """
 from harness.suite import Suite, seeds, wrong_in
-from lab import addresses, controls, documented, leaps, rollover, sharded, takeovers
+from lab import addresses, chronied, controls, documented, documented_smallest, leaps, rollover, sharded, takeovers
 from lab.fleet import Fleet
 from lab.hosts import missing
 from lab.runs import Run
@@ -55,9 +55,14 @@ def addresses_of_masters(trial):
     addresses.tell_all(trial.program, trial.note)
 
 
-@suite.case(missing=missing)
+@suite.case(missing=chronied.missing)
 def as_documented(trial):
     yield from documented.tell(trial.program, trial.room, trial.note)
+
+
+@suite.case(missing=chronied.missing)
+def smallest_as_documented(trial):
+    yield from documented_smallest.tell(trial.program, trial.note)
 
 
 @suite.case(missing=missing, long=True)

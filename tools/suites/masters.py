@@ -6,7 +6,8 @@ their own (tools/lab). All cases run at once.
   two looks at the host's clock around it, and no commit may be out of order.
 - A server comes to be unsynchronised, one's oscillator jumps between two polls, one says RATE, DENY or RSTR, one announces a leap second,
   one shares keys: its master is silent, asks less, or is a suspect, as it should, and readings are right.
-- Readings of a machine whose masters stand on stratum 1 across a wire are at most 0.6 ms wide just after a round, at real-time priority.
+- Readings of a machine whose masters stand on stratum 1 across a wire are at most 0.6 ms wide just after a round, and at most 0.25 ms wider just
+  before the next, at real-time priority.
 - The files and commands of docs/MASTERS.md run as they are written there.
 - Three servers of five that lie make readings wrong, which the judge sees.
 """
