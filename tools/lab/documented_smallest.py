@@ -74,7 +74,7 @@ def wrong_told(told: list[list[str]], services: list[Instance]) -> typing.Iterat
     if told[-2:] != [["restart", "chrony"], ["enable", "--now", *units]]:
         yield f"systemctl is told {told[-2:]}, and {units} have files"
     servers = [[word.rpartition(":")[0] for word in service.words if word.endswith(":123")] for service in services if not service.settings]
-    wanted = [["set-property", unit, f"IPAddressAllow=localhost {' '.join(server)}"] for unit, server in zip(units, servers)]
+    wanted = [["set-property", unit, f"IPAddressAllow={' '.join(server)}"] for unit, server in zip(units, servers)]
     if [" ".join(words).split() for words in told[:-2]] != [" ".join(words).split() for words in wanted]:
         yield f"systemctl is told {told[:-2]}, and {wanted} is wanted"
     if len(servers) != len(HOSTS) or len(services) != len(HOSTS) + 1:

@@ -466,6 +466,35 @@ def by_systemd(trial):
     try_bad_files(trial, host)
 
 
+FULL = """
+mkdir -p /var/lib/truetime/a
+mount -t tmpfs -o size=64k,mode=700 none /var/lib/truetime/a
+chown truetime: /var/lib/truetime/a
+head -c 70000 /dev/zero >/var/lib/truetime/a/full || :
+"""
+
+
+@suite.case(root=True, programs=TRIES)
+def full_disk(trial):
+    """A machine whose disk is full is started less and less often, is not up meanwhile, and is at once where somebody makes room and restarts it. A
+    purge leaves the mount point, empty. A master comes to reach a server that is allowed it, as the smallest fleet of OPERATING says."""
+    if not (host := booted(trial)):
+        return
+    trial.equal("set-property", host.systemctl("set-property", "truetime-master@ntp1", "IPAddressAllow=10.1.0.2"), ("", 0))
+    allowed = host.systemctl("show", "-P", "IPAddressAllow", "truetime-master@ntp1")[0].split()
+    trial.equal("allowed", sorted(allowed), ["10.1.0.2/32", "127.0.0.0/8", "::1/128"])
+    trial.equal("full", host.do("sh", "-ec", FULL).status, 0)
+    trial.equal("start", host.systemctl("start", "truetime@a")[1], 1)
+    time.sleep(10)
+    shown = dict(line.split("=", 1) for line in host.systemctl("show", "-p", "ActiveState", "-p", "NRestarts", "truetime@a")[0].split())
+    trial.equal("state", shown["ActiveState"], "activating")
+    trial.between("starts again in ten seconds", 2, int(shown["NRestarts"]), 3)
+    os.remove(f"{host.root}/var/lib/truetime/a/full")
+    trial.equal("restart", (host.systemctl("restart", "truetime@a"), host.do(*ASK).status), (("", 0), 0))
+    trial.equal("purge", host.do("dpkg", "-P", "truetime").status, 0)
+    trial.equal("behind the purge", host.do("find", "/var/lib/truetime", "-mindepth", "1").said, "/var/lib/truetime/a\n")
+
+
 # What lies where a machine and its masters run: kind and mode, owner and group.
 OWNERS = {
     "/etc/truetime": "drwxr-xr-x root root", "/var/lib/truetime": "drwxr-xr-x root root", "/run/truetime": "drwxr-xr-x root root",
