@@ -127,8 +127,9 @@ def other_requests(trial):
     node.run()
     eventually(lambda: get(port, "/metrics").words == "200 OK")
     for request, words in [
-            (b"GET / HTTP/1.1\r\n\r\n", "404 Not Found"), (b"GET /metrics/ HTTP/1.1\r\n\r\n", "404 Not Found"),
-            (b"GET /Health HTTP/1.1\r\n\r\n", "404 Not Found"), (b"HEAD /?/health HTTP/1.1\r\n\r\n", "404 Not Found"),
+            (b"GET // HTTP/1.1\r\n\r\n", "404 Not Found"), (b"GET /metrics/ HTTP/1.1\r\n\r\n", "404 Not Found"),
+            (b"GET /Health HTTP/1.1\r\n\r\n", "404 Not Found"), (b"HEAD /a?/health HTTP/1.1\r\n\r\n", "404 Not Found"),
+            (b"HEAD /?/health HTTP/1.1\r\n\r\n", "200 OK"),
             (b"GET http://127.0.0.1/metrics HTTP/1.1\r\n\r\n", "404 Not Found"),
             (b"POST /metrics HTTP/1.1\r\nContent-Length: 2\r\n\r\nhi", "405 Method Not Allowed"),
             (b"get /metrics HTTP/1.1\r\n\r\n", "405 Method Not Allowed"), (b"DELETE /nothing HTTP/1.1\r\n\r\n", "405 Method Not Allowed"),
@@ -161,7 +162,7 @@ def clients_that_take_their_time(trial):
             began = time.monotonic()
             with contextlib.suppress(OSError):
                 door.sendall(given)
-            trial.equal("setting http", get(port, "/").words, "404 Not Found")
+            trial.equal("setting http", get(port, "/nothing").words, "404 Not Found")
             trial.between("setting http", 0, time.monotonic() - began, 0.5)
     with socket.create_connection(("127.0.0.1", port), 5) as door:
         began, gone = time.monotonic(), None

@@ -269,16 +269,89 @@ def top_for_long(trial):
     trial.check("top", re.search("[▁▂▃▄]+[▆▇█]{20}", width), f"the last of 350 widths are {width!r}")
 
 
+# A machine with four sources, one of which is a suspect, and one has never answered. The axis fills 720 units with what lies between 100000 and 108991:
+# 13 ns for a unit, from 99480 on.
+STATUS = """truetime_epoch{machine="7"} 3
+truetime_width_seconds{machine="7"} 0.002500000
+truetime_sources{machine="7"} 4
+truetime_source_suspect{machine="7",source="2"} 1
+truetime_source_answer_age_seconds{machine="7",source="0"} 0.500000000
+truetime_source_answer_age_seconds{machine="7",source="1"} 2.000000000
+truetime_source_answer_age_seconds{machine="7",source="2"} 4.000000000
+"""
+EVIDENCE = """faulty 1
+span 100000 104000
+span 102500 108991
+span 200000 200010
+span 0 4000000000000000000
+claim 102500 104000
+"""
+# For each of them where its bar begins, and how long it is.
+BARS = [(190, 308), (382, 500), (946, 4), None]
+FUSED = (382, 116)
+
+
+def bars_in(document):
+    """Of an SVG document: the bars of the sources, those of the fused span, and the texts at the axis."""
+    def bar_of(group):
+        bars = [(int(bar.get("x")), int(bar.get("width"))) for bar in group.iter() if bar.tag.endswith("rect")]
+        return bars[0] if bars else None
+
+    groups = {name: [bar_of(group) for group in document.iter() if (group.get("class") or "").split()[:1] == [name] and group.tag.endswith("}g")]
+              for name in ("source", "fused")}
+    ticks = [text.text.split() for text in document.iter() if text.get("class") == "tick"]
+    return groups["source"], groups["fused"], ticks
+
+
 @suite.case()
 def top_as_svg(trial):
-    """One document, with the lines of the picture."""
-    node, _ = machine(trial)
-    ran = eventually(lambda: (seen := run([trial.program, "top", node.path("node.toml"), "--svg"], env=PLAIN | {"LANG": "C.UTF-8"},
-                                          cwd=node.folder)).status == 0 and "fused" in seen.said and seen)
-    trial.check("top", ran, "no document shows the fused interval")
-    if ran:
-        document = xml.etree.ElementTree.fromstring(ran.said)
-        trial.check("top", document.tag.endswith("svg") and "machine 5" in "".join(document.itertext()), ran.said[:200])
+    """One document with a view box: a bar for each span, where the axis has its times."""
+    node = trial.node(trial.scripts(*[silent] * 4), evidence="evidence", status="status", max_width="2ms", machine=7)
+    write(node.path("status"), STATUS.encode())
+    write(node.path("evidence"), EVIDENCE.encode())
+    ran = run([trial.program, "top", node.path("node.toml"), "--svg"], env=PLAIN | {"LANG": "C.UTF-8"}, cwd=node.folder)
+    document = xml.etree.ElementTree.fromstring(ran.said)
+    trial.equal("top --svg", (document.tag.endswith("svg"), document.get("viewBox")), (True, "0 0 960 500"))
+    trial.equal("top --svg", bars_in(document), (BARS, [FUSED], [["-2.470", "us"], ["+0.130", "us"], ["+2.730", "us"], ["+5.330", "us"]]))
+    paths = {path.get("class"): path.get("d") for path in document.iter() if path.tag.endswith("path")}
+    trial.equal("top --svg", paths["width"], "M948 450v-150v150m4 0")
+    # The limit has 4 fifths of the 150 units of the greatest width.
+    trial.equal("top --svg", paths.get("limit"), "M150 330h800")
+    states = [text.text for group in document.iter() if (group.get("class") or "").startswith("source") for text in group if text.tag.endswith("text")]
+    trial.equal("top --svg", states, ["0", "1", "2 suspect", "3 never"])
+    trial.check("top --svg", "prefers-color-scheme: dark" in ran.said and "<script" not in ran.said and "@import" not in ran.said, "what it fetches or runs")
+
+
+@suite.case()
+def page_for_people(trial):
+    """A page draws what `top` draws, says how the machine is and how old that is, refreshes itself, and has nothing from elsewhere."""
+    node, port = machine(trial)
+
+    def look():
+        seen = get(port, "/")
+        return seen.text.count(" suspect\">") >= 2 and seen.text.count(" never\">") >= 2 and seen
+
+    answer = eventually(look, 20)
+    trial.check("setting http", answer, f"no page shows the suspect and the one that never answered: {get(port, '/').text[-3000:]}")
+    trial.equal("setting http", (answer.words, answer.fields["Content-Type"]), ("200 OK", "text/html; charset=utf-8"))
+    trial.equal("setting http", answer.fields.get("Content-Security-Policy"), "default-src 'none'; style-src 'unsafe-inline'")
+    document = xml.etree.ElementTree.fromstring(answer.text)
+    refresh = [one.get("content") for one in document.iter("meta") if one.get("http-equiv") == "refresh"]
+    trial.equal("setting http", refresh, ["2"])
+    picture = next(one for one in document.iter() if one.tag.endswith("}svg"))
+    sources, fused, ticks = bars_in(picture)
+    trial.equal("setting http", ([bar is not None for bar in sources], len(fused), len(ticks)), ([True, True, False, True, True], 1, 4))
+    trial.check("setting http", all(150 <= bar[0] and bar[0] + bar[1] <= 950 for bar in [*filter(None, sources), *fused]), f"{sources} {fused}")
+    trial.equal("setting http", [row[0].text for row in document.iter("tr")][1:], ["0", "1", "2", "3", "4"])
+    said = "".join(document.itertext())
+    trial.check("setting http", "machine 5  epoch" in said and re.search(r"status \d{1,3} ms old", said) and "\nok\n" in said, said[:600])
+    trial.equal("setting http", [one.tag for one in document.iter() if one.tag in ("script", "link", "img", "iframe") or one.get("src") or one.get("href")], [])
+    # Each three seconds has a width of its own.
+    eventually(lambda: re.search(r'class="width" d="[^"]*v-\d+v\d+m4 0v-\d+v\d+m4 0"', get(port, "/").text), 15)
+    steps = re.search(r'class="width" d="M(\d+) \d+((?:v-\d+v\d+m4 0)+)"', get(port, "/").text)
+    trial.check("setting http", steps and steps[2].count("m4 0") >= 2, "the widths of past seconds are not drawn")
+    trial.equal("setting http", steps and int(steps[1]), steps and 952 - 4 * steps[2].count("m4 0"))
+    trial.equal("setting http", get(port, "/?a=b").words, "200 OK")
 
 
 @suite.case()

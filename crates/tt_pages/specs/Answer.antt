@@ -5,11 +5,11 @@ use Rattle.tt_status.specs.Status.{status_text}
 use Rattle.tt_status.specs.declared.statuses.Status.{Status}
 use Rattle.tt_pages.specs.Health.{is_well, reasons_text}
 use Rattle.tt_pages.specs.declared.answers.Code.{Code}
-use Rattle.tt_pages.specs.declared.answers.Code.TheVariants.{Found, FoundMetrics, NotReady}
+use Rattle.tt_pages.specs.declared.answers.Code.TheVariants.{Found, FoundMetrics, FoundStart, NotReady}
 use Rattle.tt_pages.specs.declared.answers.Code.TheVariants as code
 use Rattle.tt_pages.specs.declared.healths.Health.{Health as TheHealth}
 use Rattle.tt_pages.specs.declared.requests.Page.{Page}
-use Rattle.tt_pages.specs.declared.requests.Page.TheVariants.{Metrics, Evidence, Health}
+use Rattle.tt_pages.specs.declared.requests.Page.TheVariants.{Start, Metrics, Evidence, Health}
 use Rattle.tt_pages.specs.declared.requests.Wanted.{Wanted}
 use Rattle.tt_pages.specs.declared.requests.Wanted.TheVariants.{Whole, Head, OtherMethod}
 use Rattle.tt_pages.specs.declared.requests.Asked.{Asked}
@@ -19,6 +19,7 @@ use Rattle.tt_pages.specs.declared.requests.Asked.TheVariants.{Wants, Invalid, T
 abbrev pub words_of : Code → List ℕ
 words_of Found = codes "200 OK"
 words_of FoundMetrics = codes "200 OK"
+words_of FoundStart = codes "200 OK"
 words_of code.Invalid = codes "400 Bad Request"
 words_of code.Unknown = codes "404 Not Found"
 words_of code.OtherMethod = codes "405 Method Not Allowed"
@@ -28,11 +29,13 @@ words_of NotReady = codes "503 Service Unavailable"
 -- the type of the text
 abbrev pub type_of : Code → List ℕ
 type_of FoundMetrics = codes "text/plain; version=0.0.4; charset=utf-8"
+type_of FoundStart = codes "text/html; charset=utf-8"
 type_of _ = codes "text/plain; charset=utf-8"
 
--- what else the head says: which methods there are
+-- what else the head says: which methods there are, and that a page fetches nothing, runs nothing, and is not kept
 abbrev pub more_of : Code → List ℕ
 more_of code.OtherMethod = codes "Allow: GET, HEAD\r\n"
+more_of FoundStart = codes "Content-Security-Policy: default-src 'none'; style-src 'unsafe-inline'\r\nCache-Control: no-store\r\n"
 more_of _ = []
 
 -- the text, or nothing where only the head is asked for
@@ -77,29 +80,34 @@ evidence_content None = (code.Unknown, codes "no evidence\n")
 abbrev pub health_content : TheHealth → Code × List ℕ
 health_content health = if is_well health then (Found, codes "ok\n") else (NotReady, reasons_text health)
 
+-- the page for people
+abbrev pub start_content : List ℕ → Code × List ℕ
+start_content start = (FoundStart, start)
+
 -- the code and the text of a page, or that there is no such page
-abbrev pub content_of : Option Page → Option Status → TheHealth → Option (List ℕ) → Code × List ℕ
-content_of (Some Metrics) status health evidence = metrics_content status
-content_of (Some Evidence) status health evidence = evidence_content evidence
-content_of (Some Health) status health evidence = health_content health
-content_of None status health evidence = (code.Unknown, codes "no such page\n")
+abbrev pub content_of : Option Page → Option Status → TheHealth → Option (List ℕ) → List ℕ → Code × List ℕ
+content_of (Some Start) status health evidence start = start_content start
+content_of (Some Metrics) status health evidence start = metrics_content status
+content_of (Some Evidence) status health evidence start = evidence_content evidence
+content_of (Some Health) status health evidence start = health_content health
+content_of None status health evidence start = (code.Unknown, codes "no such page\n")
 
 -- the answer with this code and this text
 abbrev pub reply_of : Code × List ℕ → Bool → List ℕ
 reply_of content is_whole = reply_text content.0 content.1 is_whole
 
 -- the answer with a page, or its head alone
-abbrev pub page_text : Option Page → Option Status → TheHealth → Option (List ℕ) → Bool → List ℕ
-page_text page status health evidence is_whole = reply_of (content_of page status health evidence) is_whole
+abbrev pub page_text : Option Page → Option Status → TheHealth → Option (List ℕ) → List ℕ → Bool → List ℕ
+page_text page status health evidence start is_whole = reply_of (content_of page status health evidence start) is_whole
 
 -- the answer to a request
-abbrev pub wanted_text : Wanted → Option Status → TheHealth → Option (List ℕ) → List ℕ
-wanted_text (Whole page) status health evidence = page_text page status health evidence true
-wanted_text (Head page) status health evidence = page_text page status health evidence false
-wanted_text OtherMethod status health evidence = reply_text code.OtherMethod (codes "only GET and HEAD\n") true
+abbrev pub wanted_text : Wanted → Option Status → TheHealth → Option (List ℕ) → List ℕ → List ℕ
+wanted_text (Whole page) status health evidence start = page_text page status health evidence start true
+wanted_text (Head page) status health evidence start = page_text page status health evidence start false
+wanted_text OtherMethod status health evidence start = reply_text code.OtherMethod (codes "only GET and HEAD\n") true
 
 -- the answer to what is asked
-abbrev pub answer_text : Asked → Option Status → TheHealth → Option (List ℕ) → List ℕ
-answer_text (Wants wanted) status health evidence = wanted_text wanted status health evidence
-answer_text Invalid status health evidence = reply_text code.Invalid (codes "not a request\n") true
-answer_text TooLong status health evidence = reply_text code.TooLong (codes "the head is too long\n") true
+abbrev pub answer_text : Asked → Option Status → TheHealth → Option (List ℕ) → List ℕ → List ℕ
+answer_text (Wants wanted) status health evidence start = wanted_text wanted status health evidence start
+answer_text Invalid status health evidence start = reply_text code.Invalid (codes "not a request\n") true
+answer_text TooLong status health evidence start = reply_text code.TooLong (codes "the head is too long\n") true

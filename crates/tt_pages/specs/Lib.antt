@@ -1,3 +1,4 @@
 pub mod Request
 pub mod Health
+pub mod Start
 pub mod Answer

@@ -4,7 +4,7 @@ use Rattle.std.specs.Cmp.Lexicographic.{pointwise}
 use Rattle.httparse.specs.Grammar.{RequestHead, ReadsRequest, HasNoRequest, NeverHasRequest, MayBecomeRequest}
 use Rattle.httparse.specs.Spans.{RequestOverflows}
 use Rattle.tt_pages.specs.declared.requests.Page.{Page}
-use Rattle.tt_pages.specs.declared.requests.Page.TheVariants.{Metrics, Evidence, Health}
+use Rattle.tt_pages.specs.declared.requests.Page.TheVariants.{Start, Metrics, Evidence, Health}
 use Rattle.tt_pages.specs.declared.requests.Wanted.{Wanted}
 use Rattle.tt_pages.specs.declared.requests.Wanted.TheVariants.{Whole, Head, OtherMethod}
 use Rattle.tt_pages.specs.declared.requests.Asked.{Asked}
@@ -26,7 +26,8 @@ path_of target = before (position is_mark target) target
 -- the page at a path
 abbrev pub page_named : List ℕ → Option Page
 page_named path =
-    if pointwise nat_eq path (codes "/metrics") then Some Metrics
+    if pointwise nat_eq path (codes "/") then Some Start
+    else if pointwise nat_eq path (codes "/metrics") then Some Metrics
     else if pointwise nat_eq path (codes "/evidence") then Some Evidence
     else if pointwise nat_eq path (codes "/health") then Some Health
     else None

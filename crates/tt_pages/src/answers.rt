@@ -1,11 +1,13 @@
 //! The bytes of an answer.
 
 ghost use Rattle.std.specs.Prelude.{◌≡◌, ◌++◌, OnOk, IfOk, option_map, string_bytes};
-ghost use Rattle.tt_pages.specs.Answer.{answer_text, content_of, end_text, evidence_content, health_content, length_text, line_text, metrics_content, more_of, page_text, reply_text, shown_of, type_of, type_text, wanted_text, words_of, words_text};
+ghost use Rattle.tt_pages.specs.Answer.{answer_text, content_of, end_text, evidence_content, health_content, length_text, line_text, metrics_content, more_of, page_text, reply_text, shown_of, start_content, type_of, type_text, wanted_text, words_of, words_text};
 ghost use Rattle.tt_pages.specs.Health.{health_of};
+ghost use Rattle.tt_pages.specs.Start.{start_text};
 
 use crate::healths::{Health, Limits, health_of, push_reasons};
 use crate::requests::{Asked, Page, Wanted};
+use crate::starts::push_start;
 use std::alloc::{AllocError, Global};
 use tt_status::{Status, push_status};
 
@@ -18,6 +20,8 @@ pub struct Report<'a> {
     pub age: u64,
     /// The evidence of its last publication, if there is any.
     pub evidence: &'a Option<String>,
+    /// The part of a page of HTML that shows its last status, if that was drawn.
+    pub drawing: &'a Option<String>,
     /// By what it is judged.
     pub limits: Limits,
 }
@@ -27,6 +31,7 @@ pub struct Report<'a> {
 enum Code {
     Found,
     FoundMetrics,
+    FoundStart,
     Invalid,
     Unknown,
     OtherMethod,
@@ -40,7 +45,7 @@ impl Code {
         ensures { result.now ≡ words_of self }
     {
         match self {
-            Code::Found | Code::FoundMetrics => "200 OK",
+            Code::Found | Code::FoundMetrics | Code::FoundStart => "200 OK",
             Code::Invalid => "400 Bad Request",
             Code::Unknown => "404 Not Found",
             Code::OtherMethod => "405 Method Not Allowed",
@@ -55,16 +60,20 @@ impl Code {
     {
         match self {
             Code::FoundMetrics => "text/plain; version=0.0.4; charset=utf-8",
+            Code::FoundStart => "text/html; charset=utf-8",
             _ => "text/plain; charset=utf-8",
         }
     }
 
-    /// A field of its own.
+    /// Fields of its own. A browser fetches nothing for the page, runs nothing in it, and keeps no copy.
     fn more(self) -> &'static str
         ensures { result.now ≡ more_of self }
     {
         match self {
             Code::OtherMethod => "Allow: GET, HEAD\r\n",
+            Code::FoundStart => {
+                "Content-Security-Policy: default-src 'none'; style-src 'unsafe-inline'\r\nCache-Control: no-store\r\n"
+            }
             _ => "",
         }
     }
@@ -126,13 +135,26 @@ fn health_content(alloc: Global, health: &Health) -> Result<Content, AllocError>
     })
 }
 
+/// The page for people.
+fn start_content(alloc: Global, report: &Report<'_>) -> Result<Content, AllocError>
+    ensures { IfOk result (λ content. (content.code, string_bytes content.text) ≡ start_content (start_text (health_of report.now.status.now report.now.age report.now.limits) report.now.age (option_map string_bytes report.now.drawing.now))) }
+{
+    let health = health_of(report.status, report.age, &report.limits);
+    let mut text = String::new(alloc);
+    push_start(&mut text, &health, report.age, report.drawing)?;
+    Ok(Content {
+        code: Code::FoundStart,
+        text,
+    })
+}
+
 /// The code and the text of a page, or that there is no such page.
 fn page_content(
     alloc: Global,
     page: Option<Page>,
     report: &Report<'_>,
 ) -> Result<Content, AllocError>
-    ensures { IfOk result (λ content. (content.code, string_bytes content.text) ≡ content_of page report.now.status.now (health_of report.now.status.now report.now.age report.now.limits) (option_map string_bytes report.now.evidence.now)) }
+    ensures { IfOk result (λ content. (content.code, string_bytes content.text) ≡ content_of page report.now.status.now (health_of report.now.status.now report.now.age report.now.limits) (option_map string_bytes report.now.evidence.now) (start_text (health_of report.now.status.now report.now.age report.now.limits) report.now.age (option_map string_bytes report.now.drawing.now))) }
 {
     match page {
         Some(Page::Metrics) => metrics_content(alloc, report.status),
@@ -141,6 +163,7 @@ fn page_content(
             let health = health_of(report.status, report.age, &report.limits);
             health_content(alloc, &health)
         }
+        Some(Page::Start) => start_content(alloc, report),
         None => content_with(alloc, Code::Unknown, "no such page\n"),
     }
 }
@@ -216,7 +239,7 @@ fn push_page(
     is_whole: bool,
 ) -> Result<(), AllocError>
     ensures { OnOk result (string_bytes text.new ≡ string_bytes text.old
-        ++ page_text page report.now.status.now (health_of report.now.status.now report.now.age report.now.limits) (option_map string_bytes report.now.evidence.now) is_whole) }
+        ++ page_text page report.now.status.now (health_of report.now.status.now report.now.age report.now.limits) (option_map string_bytes report.now.evidence.now) (start_text (health_of report.now.status.now report.now.age report.now.limits) report.now.age (option_map string_bytes report.now.drawing.now)) is_whole) }
 {
     let content = page_content(alloc, page, report)?;
     push_reply(text, content.code, content.text.as_str(), is_whole)
@@ -230,7 +253,7 @@ fn push_wanted(
     report: &Report<'_>,
 ) -> Result<(), AllocError>
     ensures { OnOk result (string_bytes text.new ≡ string_bytes text.old
-        ++ wanted_text wanted report.now.status.now (health_of report.now.status.now report.now.age report.now.limits) (option_map string_bytes report.now.evidence.now)) }
+        ++ wanted_text wanted report.now.status.now (health_of report.now.status.now report.now.age report.now.limits) (option_map string_bytes report.now.evidence.now) (start_text (health_of report.now.status.now report.now.age report.now.limits) report.now.age (option_map string_bytes report.now.drawing.now))) }
 {
     match wanted {
         Wanted::Whole(page) => push_page(text, alloc, page, report, true),
@@ -247,7 +270,7 @@ pub fn push_answer(
     report: &Report<'_>,
 ) -> Result<(), AllocError>
     ensures answer { OnOk result (string_bytes text.new ≡ string_bytes text.old
-        ++ answer_text asked report.now.status.now (health_of report.now.status.now report.now.age report.now.limits) (option_map string_bytes report.now.evidence.now)) }
+        ++ answer_text asked report.now.status.now (health_of report.now.status.now report.now.age report.now.limits) (option_map string_bytes report.now.evidence.now) (start_text (health_of report.now.status.now report.now.age report.now.limits) report.now.age (option_map string_bytes report.now.drawing.now))) }
 {
     match asked {
         Asked::Wants(wanted) => push_wanted(text, alloc, wanted, report),

@@ -1,7 +1,7 @@
 //! What an HTTP request to a machine is answered: its status, its evidence, and whether it is well.
 //!
-//! All of it is functions over values: no socket is opened here. A request is GET or HEAD of `/metrics`, `/evidence` or
-//! `/health`, by HTTP/1.0 or HTTP/1.1; what stands behind a `?` in its target is ignored, and so are its fields.
+//! All of it is functions over values: no socket is opened here. A request is GET or HEAD of `/`, `/metrics`,
+//! `/evidence` or `/health`, by HTTP/1.0 or HTTP/1.1; what stands behind a `?` in its target is ignored, and so are its fields.
 //!
 //! ```text
 //! if let Some(asked) = asked_in(&bytes) {  // None: the head goes on
@@ -11,12 +11,13 @@
 //!
 //! - `requests`: [`Asked`], what the bytes of a request ask for.
 //! - `healths`: [`Health`], whether a machine is well, and [`Limits`], by what that is judged.
-//! - `answers`: the bytes of an answer.
+//! - `answers`: the bytes of an answer. `starts`: the page for people.
 #![tactic(auto)]
 
 mod answers;
 mod healths;
 mod requests;
+mod starts;
 
 pub use answers::{Report, push_answer};
 pub use healths::{Health, Limits, health_of};

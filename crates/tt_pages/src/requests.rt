@@ -15,6 +15,8 @@ pub const MAX_FIELDS: usize = 64;
 /// A page.
 #[derive(Clone, Copy)]
 pub enum Page {
+    /// `/`: what the machine sees, for people.
+    Start,
     /// `/metrics`: the status.
     Metrics,
     /// `/evidence`: the evidence of the last publication.
@@ -66,6 +68,9 @@ fn path_of(target: &[u8]) -> &[u8]
 fn page_named(path: &[u8]) -> Option<Page>
     ensures { result ≡ page_named path.now }
 {
+    if path == b"/".as_slice() {
+        return Some(Page::Start);
+    }
     if path == b"/metrics".as_slice() {
         return Some(Page::Metrics);
     }

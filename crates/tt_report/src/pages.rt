@@ -11,8 +11,9 @@ use std::os::fd::AsRawFd;
 use std::sync::Wait;
 use std::time::{Clock as SystemClock, Duration};
 use std::{io, thread};
-use tt_pages::{Asked, Limits, Report, push_answer};
-use tt_status::Status;
+use tt_pages::{Asked, Limits, Page, Report, Wanted, push_answer};
+use tt_status::{Status, push_status};
+use tt_top::{Form, Widths, push_drawing, read_view};
 
 /// The most connections that are served at a time.
 const PLACES: usize = 8;
@@ -22,6 +23,9 @@ const ACCEPTS: usize = 8;
 
 /// The pause after a connection could not be accepted, in nanoseconds.
 const PAUSE: u64 = 100_000_000;
+
+/// How often the newest status is looked at, though nobody asks, in nanoseconds: once a second.
+const LOOKS: u64 = 1_000_000_000;
 
 /// How many events one wait reports. After each wait all connections are looked at.
 const EVENTS: usize = 16;
@@ -45,18 +49,51 @@ struct Newest {
     /// When the status was handed over, or the thread began: a reading of the monotonic clock, in nanoseconds.
     at: u64,
     evidence: Option<String>,
+    /// The widths of the last ten minutes.
+    widths: Widths,
+    /// The part of a page that shows the status, if it was drawn since that was handed over.
+    drawing: Option<String>,
 }
 
 impl Newest {
+    /// Nothing was handed over so far, when the clock shows `now`.
+    fn nothing(now: u64) -> Newest {
+        Newest {
+            status: None,
+            at: now,
+            evidence: None,
+            widths: Widths::new(now),
+            drawing: None,
+        }
+    }
+
     /// Takes what was handed over meanwhile.
     fn take<R: Wait>(&mut self, rt: &R, lanes: &PageLanes) {
         if let Some(shown) = lanes.status.take_waiting(rt) {
+            self.widths
+                .see(shown.status.width.unwrap_or(0), shown.at);
             self.status = Some(shown.status);
             self.at = shown.at;
+            self.drawing = None;
         }
         if let Some(text) = lanes.evidence.take_waiting(rt) {
             self.evidence = Some(text);
         }
+    }
+
+    /// Draws the status where that is asked for and not done yet, so once for each status at most.
+    fn draw(&mut self, alloc: Global, asked: Asked, limits: Limits) {
+        if self.drawing.is_some() || !wants_drawing(asked) {
+            return;
+        }
+        let Some(status) = &self.status else {
+            return;
+        };
+        let evidence = match &self.evidence {
+            Some(text) => text.as_str(),
+            None => "",
+        };
+        self.drawing = drawing_of(alloc, status, evidence, &self.widths, limits);
     }
 
     /// The answer to this, when the clock shows `now`. None if it is out of memory.
@@ -65,6 +102,7 @@ impl Newest {
             status: &self.status,
             age: now.saturating_sub(self.at),
             evidence: &self.evidence,
+            drawing: &self.drawing,
             limits,
         };
         let mut text = String::new(alloc);
@@ -75,6 +113,38 @@ impl Newest {
     }
 }
 
+/// Whether the page for people is asked for.
+fn wants_drawing(asked: Asked) -> bool {
+    matches!(
+        asked,
+        Asked::Wants(Wanted::Whole(Some(Page::Start)) | Wanted::Head(Some(Page::Start)))
+    )
+}
+
+/// The part of a page that shows this status, with these widths before. None if it is out of memory.
+fn drawing_of(
+    alloc: Global,
+    status: &Status,
+    evidence: &str,
+    widths: &Widths,
+    limits: Limits,
+) -> Option<String> {
+    let form = Form {
+        columns: 80,
+        ascii: true,
+        colour: false,
+        silent_after: limits.fresh,
+        max_width: limits.max_width,
+    };
+    let mut told = String::new(alloc);
+    push_status(&mut told, status).ok()?;
+    let view = read_view(alloc, told.as_bytes(), evidence.as_bytes()).ok()?;
+    let widths = widths.list(alloc).ok()?;
+    let mut text = String::new(alloc);
+    push_drawing(alloc, &mut text, &view, &form, widths.as_slice()).ok()?;
+    Some(text)
+}
+
 /// The pages with the connections that are served, and what their thread waits with.
 #[derive(Drop)]
 pub(crate) struct PageHost {
@@ -83,7 +153,7 @@ pub(crate) struct PageHost {
     poll: Poll,
     events: Events,
     visitors: Vec<Option<Visitor>>,
-    /// How long the next wait is at most, in nanoseconds. None if it ends only when something comes.
+    /// How long the next wait is at most, in nanoseconds. None for a second.
     pause: Option<u64>,
 }
 
@@ -107,21 +177,17 @@ impl PageHost {
         })
     }
 
-    /// Waits until a connection comes, gives something or takes something, or has had its time. If the system refuses to
-    /// wait, it sleeps for a tenth of a second.
+    /// Waits until a connection comes, gives something or takes something, or has had its time, for a second at most. If the
+    /// system refuses to wait, it sleeps for a tenth of a second.
     fn wait<R: SystemClock>(&mut self, rt: &R) {
         let now = clock_of(rt);
-        let mut most = self.pause;
+        let mut most = self.pause.unwrap_or(LOOKS);
         for slot in &self.visitors {
             if let Some(visitor) = slot {
-                let left = left_of(visitor.began, now);
-                most = Some(most.unwrap_or(left).min(left));
+                most = most.min(left_of(visitor.began, now));
             }
         }
-        let most = match most {
-            Some(most) => Some(Duration::from_nanos(most)),
-            None => None,
-        };
+        let most = Some(Duration::from_nanos(most));
         if self.poll.poll(&mut self.events, most).is_err() {
             thread::sleep(rt, Duration::from_nanos(PAUSE));
         }
@@ -193,7 +259,7 @@ impl PageHost {
     }
 
     /// A turn of each connection, and the end of those that are over or have had their time when the clock shows `now`.
-    fn serve_all(&mut self, newest: &Newest, now: u64) {
+    fn serve_all(&mut self, newest: &mut Newest, now: u64) {
         for slot in self.visitors.iter_mut() {
             let goes_on = match slot {
                 Some(visitor) => {
@@ -210,12 +276,21 @@ impl PageHost {
 }
 
 /// A turn of this connection. Answers whether it goes on.
-fn serve(alloc: Global, visitor: &mut Visitor, newest: &Newest, limits: Limits, now: u64) -> bool {
+fn serve(
+    alloc: Global,
+    visitor: &mut Visitor,
+    newest: &mut Newest,
+    limits: Limits,
+    now: u64,
+) -> bool {
     let turn = match visitor.turn() {
-        Turn::Asks(asked) => match newest.answer(alloc, asked, limits, now) {
-            Some(answer) => visitor.give(answer),
-            None => Turn::Over,
-        },
+        Turn::Asks(asked) => {
+            newest.draw(alloc, asked, limits);
+            match newest.answer(alloc, asked, limits, now) {
+                Some(answer) => visitor.give(answer),
+                None => Turn::Over,
+            }
+        }
         turn => turn,
     };
     matches!(turn, Turn::Waits)
@@ -233,17 +308,13 @@ fn no_visitors(alloc: Global) -> Result<Vec<Option<Visitor>>, AllocError> {
 /// Answers requests, one of each connection.
 pub(crate) fn give_pages<R: Wait + SystemClock>(rt: &R, records: &Records, host: PageHost) {
     let mut host = host;
-    let mut newest = Newest {
-        status: None,
-        at: clock_of(rt),
-        evidence: None,
-    };
+    let mut newest = Newest::nothing(clock_of(rt));
     for _ in rt.forever() {
         host.wait(rt);
         newest.take(rt, &records.pages);
         let now = clock_of(rt);
         host.accept_some(now);
-        host.serve_all(&newest, now);
+        host.serve_all(&mut newest, now);
     }
     unreachable!()
 }

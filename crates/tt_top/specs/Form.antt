@@ -1,10 +1,23 @@
 -- How wide a picture is, and what makes it red.
-use Rattle.std.specs.Prelude.{ℕ, ◌-◌, ◌&&◌, min, max, Bool, if◌then◌else◌, List, [], ◌∷◌, codes}
+use Rattle.std.specs.Prelude.{ℕ, ◌-◌, ◌&&◌, nat_lt, min, max, Bool, true, false, if◌then◌else◌, Option, Some, None, List, [], ◌∷◌, codes}
 use Rattle.tt_top.specs.declared.forms.Form.{Form}
 
 -- how many columns the bars have: the columns of the picture, 64 to 300, without the 51 of the other parts of a line
 abbrev pub bar_columns : Form → ℕ
 bar_columns form = min (max form.columns 64) 300 - 51
+
+-- a width is above a limit, if both are known
+abbrev pub is_above : Option ℕ → Option ℕ → Bool
+is_above (Some width) (Some most) = nat_lt most width
+is_above _ _ = false
+
+-- readings of this width are wider than the limit
+abbrev pub is_wide : Form → Option ℕ → Bool
+is_wide form width = is_above width form.max_width
+
+-- the word for that
+abbrev pub wide_word : Form → Option ℕ → List ℕ
+wide_word form width = if is_wide form width then codes " wide" else []
 
 -- what makes text red, where that is wanted: an escape (27), and `[31m`
 abbrev pub red_word : Form → Bool → List ℕ

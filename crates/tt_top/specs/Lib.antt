@@ -3,6 +3,9 @@ pub mod Piece
 pub mod Bar
 pub mod Spark
 pub mod Row
+pub mod Ruler
+pub mod Chart
+pub mod History
 pub mod Head
 pub mod Sign
 pub mod Picture
@@ -10,3 +13,5 @@ pub mod Fault
 pub mod Field
 pub mod View
 pub mod Svg
+pub mod Drawing
+pub mod Width

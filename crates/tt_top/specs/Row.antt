@@ -17,11 +17,14 @@ use Rattle.tt_top.specs.Piece.{join, piece_text}
 abbrev pub middle_of : Interval → ℕ
 middle_of span = (span.lo + span.hi) / 2
 
+-- how far a time lies from the middle of the fused span
+abbrev pub apart_of : ℕ → Interval → Offset
+apart_of here fused =
+    if nat_lt here (middle_of fused) then record { below = true; size = middle_of fused - here } else record { below = false; size = here - middle_of fused }
+
 -- how far the middle of the first span lies from that of the second
 abbrev pub offset_between : Interval → Interval → Offset
-offset_between span fused =
-    if nat_lt (middle_of span) (middle_of fused) then record { below = true; size = middle_of fused - middle_of span }
-    else record { below = false; size = middle_of span - middle_of fused }
+offset_between span fused = apart_of (middle_of span) fused
 
 -- the offset of a span from the fused one, if both are known
 abbrev pub offset_if : Option Interval → Option Interval → Option Offset

@@ -57,14 +57,14 @@ pub(crate) struct Bar {
 
 /// The times that have to be on a scale.
 #[derive(Clone, Copy)]
-struct Reach {
-    lo: u64,
-    hi: u64,
+pub(crate) struct Reach {
+    pub(crate) lo: u64,
+    pub(crate) hi: u64,
 }
 
 impl Reach {
     /// The times that have to be on a scale: the fused span, and those of the sources that are no suspects.
-    fn of(fused: &Span, sources: &[SourceView]) -> Reach
+    pub(crate) fn of(fused: &Span, sources: &[SourceView]) -> Reach
         ensures value { result ≡ reach_of_all fused.now sources.now }
         ensures in_time { result.hi ≤ max_time }
     {

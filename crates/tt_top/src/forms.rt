@@ -1,7 +1,7 @@
 //! How a view is drawn.
 
 ghost use Rattle.std.specs.Prelude.{◌≡◌, ◌≤◌, codes};
-ghost use Rattle.tt_top.specs.Form.{bar_columns, red_word, plain_word};
+ghost use Rattle.tt_top.specs.Form.{bar_columns, is_wide, wide_word, red_word, plain_word};
 
 /// The least number of columns that a picture has.
 pub const MIN_COLUMNS: u64 = 64;
@@ -21,6 +21,8 @@ pub struct Form {
     pub colour: bool,
     /// A source is called silent if its last answer is older than this, in nanoseconds.
     pub silent_after: u64,
+    /// The widest reading that clients are given, in nanoseconds, if there is a limit and it is known.
+    pub max_width: Option<u64>,
 }
 
 impl Form {
@@ -31,6 +33,23 @@ impl Form {
         ensures most { result ≤ 249 }
     {
         self.columns.max(MIN_COLUMNS).min(MAX_COLUMNS) - 51
+    }
+
+    /// Whether readings of this width, if there are any, are wider than the limit, if there is one.
+    pub(crate) fn is_wide(&self, width: Option<u64>) -> bool
+        ensures { result ≡ is_wide self.now width }
+    {
+        match (width, self.max_width) {
+            (Some(width), Some(most)) => most < width,
+            _ => false,
+        }
+    }
+
+    /// The word for readings of this width where they are wider than the limit.
+    pub(crate) fn wide_word(&self, width: Option<u64>) -> &'static str
+        ensures { result.now ≡ wide_word self.now width }
+    {
+        if self.is_wide(width) { " wide" } else { "" }
     }
 
     /// What makes text red, where that is wanted.

@@ -2,7 +2,7 @@
 
 ghost use Rattle.std.specs.Prelude.{◌≡◌, ◌++◌, OnOk, string_bytes};
 ghost use Rattle.std.specs.List.{flat_map};
-ghost use Rattle.tt_top.specs.Row.{middle_of, offset_between, source_offset, bar_mark, ends_word, state_word, row_text, fused_text, fused_length};
+ghost use Rattle.tt_top.specs.Row.{middle_of, apart_of, offset_between, source_offset, bar_mark, ends_word, state_word, row_text, fused_text, fused_length};
 
 use crate::bars::{Bar, Mark, Scale};
 use crate::forms::Form;
@@ -22,7 +22,13 @@ fn middle(span: &Span) -> u64
 fn offset(span: &Span, fused: &Span) -> Offset
     ensures { result ≡ offset_between span.now fused.now }
 {
-    let here = middle(span);
+    apart(middle(span), fused)
+}
+
+/// How far a time lies from the middle of the fused span.
+pub(crate) fn apart(here: u64, fused: &Span) -> Offset
+    ensures { result ≡ apart_of here fused.now }
+{
     let there = middle(fused);
     if here < there {
         Offset {
@@ -39,7 +45,7 @@ fn offset(span: &Span, fused: &Span) -> Offset
 
 impl SourceView {
     /// How far the middle of its span lies from that of the fused one, if both are known.
-    fn offset(&self, fused: &Option<Span>) -> Option<Offset>
+    pub(crate) fn offset(&self, fused: &Option<Span>) -> Option<Offset>
         ensures { result ≡ source_offset self.now fused.now }
     {
         match (&self.span, fused) {
@@ -64,7 +70,7 @@ impl SourceView {
     }
 
     /// Which ends of the fused span it holds.
-    fn ends(&self) -> &'static str
+    pub(crate) fn ends(&self) -> &'static str
         ensures { result.now ≡ ends_word self.now }
     {
         if self.holds_lower {
@@ -75,7 +81,7 @@ impl SourceView {
     }
 
     /// What is wrong with it.
-    fn state(&self, form: &Form) -> &'static str
+    pub(crate) fn state(&self, form: &Form) -> &'static str
         ensures { result.now ≡ state_word self.now form.now }
     {
         let Some(age) = self.age else {

@@ -1,24 +1,65 @@
-//! The picture of a view, as SVG.
+//! The picture of a view, as SVG: bars on an axis.
 
-ghost use Rattle.std.specs.Prelude.{◌≡◌, ◌++◌, OnOk, string_bytes};
-ghost use Rattle.std.specs.List.{flat_map};
-ghost use Rattle.tt_top.specs.Svg.{lines_in, height_of, opening_of, closing, escaped, document_text, svg_text};
+ghost use Rattle.std.specs.Prelude.{◌≡◌, ◌++◌, ◌≤◌, OnOk, string_bytes};
+ghost use Rattle.tt_top.specs.Svg.{base_of, opening_of, style, closing, svg_text};
 
+use crate::charts::{push_spans, row};
 use crate::forms::Form;
-use crate::pictures::push_view;
+use crate::histories::push_widths;
 use crate::pieces::{Piece, push_pieces};
 use crate::views::View;
-use std::alloc::{AllocError, Global};
+use std::alloc::AllocError;
 
-/// The most lines for which a document is made high enough.
-const MOST_LINES: u64 = 1000;
+/// How the parts of a document look, on light and on dark ground. Nothing is fetched from elsewhere.
+const STYLE: &str = "<style>
+svg { --ink: #1c2128; --paper: #ffffff; --line: #6e7781; --source: #2f6fb3; --bad: #c4262e; --fused: #1f7a3a; --band: #d8efdc; background: var(--paper) }
+@media (prefers-color-scheme: dark) { svg { --ink: #e6edf3; --paper: #11151a; --line: #8b949e; --source: #6cb0f5; --bad: #ff7b72; --fused: #56d36f; --band: #17361f } }
+svg text { font: 28px sans-serif; fill: var(--ink) }
+svg .tick { text-anchor: middle; font-size: 26px }
+svg .end { text-anchor: end }
+svg .axis { stroke: var(--line); stroke-width: 2; fill: none }
+svg .source rect { fill: var(--source) }
+svg .suspect rect, svg .silent rect { fill: var(--bad) }
+svg .suspect text, svg .silent text, svg .never text, svg .wide { fill: var(--bad) }
+svg .fused rect { fill: var(--fused) }
+svg .band { fill: var(--band) }
+svg .width { stroke: var(--source); stroke-width: 4; fill: none }
+svg .limit { stroke: var(--bad); stroke-width: 3; stroke-dasharray: 12 8; fill: none }
+</style>
+";
 
-/// Writes the picture of a view, as [`push_view`] draws it, at the end of the text, as an SVG document of lines in a font
-/// with characters of one width. The form has to be in ASCII and without colour.
+/// Where the widths of a document of so many sources stand, in units from the upper end.
+fn base(sources: u64) -> u64
+    ensures value { result ≡ base_of sources }
+    ensures most { result ≤ 100000 }
+{
+    row(sources) + 290
+}
+
+/// Writes what a document of so many sources begins with.
+fn push_opening(text: &mut String, sources: u64) -> Result<(), AllocError>
+    ensures { OnOk result (string_bytes text.new ≡ string_bytes text.old ++ opening_of sources) }
+{
+    push_pieces(
+        text,
+        &[
+            Piece::Word("<svg xmlns=\"http://www.w3.org/2000/svg\" viewBox=\"0 0 960 "),
+            Piece::Number(base(sources) + 50),
+            Piece::Word("\" role=\"img\" aria-label=\"spans of all sources, and the width\">\n"),
+            Piece::Word(STYLE),
+        ],
+    )
+}
+
+/// Writes the picture of a view at the end of the text, as an SVG document of 960 units: a bar for the span of each source
+/// and for the fused one on an axis of 800 units, from 150 on, whose marks say how far they lie from the middle of the fused
+/// span; and below them the last 200 of `widths`, the oldest first, in nanoseconds, four units each, up to the right end.
+///
+/// A bar begins at the unit of its span's first time and ends with that of its last one. It has at least four units, and
+/// stays on the axis. Suspects may lie beyond it. A width has its part of the 150 units that the greatest one has.
 ///
 /// Refuses only if it is out of memory; then the text may have a part of it at its end.
 pub fn push_svg(
-    alloc: Global,
     text: &mut String,
     view: &View,
     form: &Form,
@@ -26,78 +67,10 @@ pub fn push_svg(
 ) -> Result<(), AllocError>
     ensures written { OnOk result (string_bytes text.new ≡ string_bytes text.old ++ svg_text form.now view.now widths.now) }
 {
-    let mut drawn = String::new(alloc);
-    push_view(&mut drawn, view, form, widths)?;
-    push_document(text, drawn.as_bytes())
-}
-
-/// How many lines end in a text.
-fn lines(bytes: &[u8]) -> u64
-    ensures { result ≡ lines_in bytes.now }
-{
-    bytes.iter().filter(|byte| **byte == b'\n').count() as u64
-}
-
-/// How high a document of so many lines is.
-fn height(lines: u64) -> u64
-    ensures { result ≡ height_of lines }
-{
-    18 * lines.min(MOST_LINES) + 20
-}
-
-/// Writes the document that shows a text.
-fn push_document(text: &mut String, bytes: &[u8]) -> Result<(), AllocError>
-    ensures { OnOk result (string_bytes text.new ≡ string_bytes text.old ++ document_text bytes.now) }
-{
-    push_opening(text, height(lines(bytes)))?;
-    push_escaped(text, bytes)?;
-    push_closing(text)
-}
-
-/// Writes what a document of a height begins with.
-fn push_opening(text: &mut String, height: u64) -> Result<(), AllocError>
-    ensures { OnOk result (string_bytes text.new ≡ string_bytes text.old ++ opening_of height) }
-{
-    push_pieces(
-        text,
-        &[
-            Piece::Word("<svg xmlns=\"http://www.w3.org/2000/svg\" width=\"1200\" height=\""),
-            Piece::Number(height),
-            Piece::Word(
-                "\">\n<style>svg { background: #ffffff } text { font: 14px monospace; white-space: pre }</style>\n<text xml:space=\"preserve\"><tspan x=\"8\" dy=\"18\">",
-            ),
-        ],
-    )
-}
-
-/// Writes what a document ends with.
-fn push_closing(text: &mut String) -> Result<(), AllocError>
-    ensures { OnOk result (string_bytes text.new ≡ string_bytes text.old ++ closing) }
-{
-    text.push_str("</tspan></text>\n</svg>\n")
-}
-
-/// Writes a text as what a document has for it.
-fn push_escaped(text: &mut String, bytes: &[u8]) -> Result<(), AllocError>
-    ensures { OnOk result (string_bytes text.new ≡ string_bytes text.old ++ flat_map escaped bytes.now) }
-{
-    for byte in bytes {
-        push_byte(text, *byte)?;
-    }
-    Ok(())
-}
-
-/// Writes what a document has for a byte: each line is a part of its own.
-fn push_byte(text: &mut String, byte: u8) -> Result<(), AllocError>
-    ensures { OnOk result (string_bytes text.new ≡ string_bytes text.old ++ escaped byte) }
-{
-    if byte == b'\n' {
-        text.push_str("</tspan>\n<tspan x=\"8\" dy=\"18\">")
-    } else if byte == b'<' {
-        text.push_str("&lt;")
-    } else if byte == b'>' {
-        text.push_str("&gt;")
-    } else {
-        text.push(char::from(byte))
-    }
+    let sources = view.sources.as_slice();
+    let count = sources.len() as u64;
+    push_opening(text, count)?;
+    push_spans(text, form, &view.fused, sources)?;
+    push_widths(text, form, view, base(count), widths)?;
+    text.push_str("</svg>\n")
 }

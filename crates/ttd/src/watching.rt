@@ -86,11 +86,13 @@ enum Origin {
     Port(u16),
 }
 
-/// What is shown, and after how long a source is called silent, in nanoseconds.
+/// What is shown, after how long a source is called silent, and the widest reading that clients are given, if that is known,
+/// in nanoseconds.
 #[derive(Drop)]
 struct Sight {
     origin: Origin,
     silent_after: u64,
+    max_width: Option<u64>,
 }
 
 /// The text of a status, and that of the evidence, which is empty where there is none.
@@ -213,6 +215,7 @@ pub(crate) fn show<H: Host + Env + Screen, O: ByteWriter>(
         ascii: manner.svg || !is_utf8(rt),
         colour: !manner.svg && is_coloured(rt),
         silent_after: sight.silent_after,
+        max_width: sight.max_width,
     };
     if !manner.once && !manner.svg {
         return show_on(rt, &sight.origin, &form, output);
@@ -257,7 +260,7 @@ fn draw_once<H: Host>(
     let view = view_of(rt, origin)?;
     let mut text = String::new(rt.alloc());
     if svg {
-        push_svg(rt.alloc(), &mut text, &view, form, &[])?;
+        push_svg(&mut text, &view, form, &[view.width.unwrap_or(0)])?;
     } else {
         push_old(rt, &mut text, origin, form)?;
         push_view(&mut text, &view, form, &[])?;
@@ -335,6 +338,7 @@ fn sight_of<H: AllocGlobal + Files<File = File> + Eprint>(
         TopPlace::Port(port) => Ok(Sight {
             origin: Origin::Port(port),
             silent_after: SILENT_AFTER,
+            max_width: None,
         }),
         TopPlace::File(path) => sight_in(rt, path),
     }
@@ -368,6 +372,7 @@ fn sight_in<H: AllocGlobal + Files<File = File> + Eprint>(
     Ok(Sight {
         origin: Origin::Files { status, evidence },
         silent_after: round.saturating_mul(3),
+        max_width: settings.max_width(),
     })
 }
 

@@ -1,8 +1,8 @@
 use Rattle.std.proofs.Common.{◌≡◌, ◌++◌, take}
 use Rattle.std.specs.Prelude.{string_bytes}
 use Rattle.std.specs.List.{flat_map}
-use Rattle.tt_top.specs.Svg.{escaped}
-use Rattle.tt_top.proofs.svgs.push_escaped.Given as goal
+use Rattle.tt_top.specs.Drawing.{escaped}
+use Rattle.tt_top.proofs.drawings.push_escaped.Given as goal
 
 abbrev pub invariant-loop-byte : goal.invariant-loop-byte
 invariant-loop-byte l = string_bytes l.text ≡ string_bytes l.fn.text ++ flat_map escaped (take l.byte-index l.bytes)
