@@ -4,13 +4,14 @@ import os
 import resource
 import shutil
 import socket
+import sys
 import time
 import typing
 
 from harness.metrics import faults_in, numbers_in
 from harness.processes import free_port, truetime
 from harness.program import read_text, run, write
-from harness.trouble import Spoils, disrupt, honest, page, silent
+from harness.trouble import Network, Spoils, disrupt, honest, page, silent
 from suites.wiring import suite
 from suites.wiring_checks import TIMES, eventually, published, spans
 
@@ -420,6 +421,27 @@ def port_of_pages_in_use(trial):
     line = f"ttd: 127.0.0.1:{port}: the address for pages can't be listened at: Address already in use (os error 98)"
     trial.check("refusal 1830", line in ran.error.splitlines(), f"{ran.error!r} has no line {line!r}")
     trial.equal("setting http", os.listdir(node.path("state")), [])
+
+
+# Asks for the page for people at this address, and prints the status.
+ASK = "import sys, urllib.request; print(urllib.request.urlopen(f'http://{sys.argv[1]}/', timeout=5).status)"
+
+
+@suite.case(root=True, programs=("ip", "unshare", "nsenter"))
+def pages_beyond_loopback(trial):
+    """Pages at an address of the host, or at all of them, are given to others too. Those at loopback are not, and sessions are at loopback alone."""
+    network = trial.keep(Network())
+    network.do("ip", "address", "add", "10.9.8.7/32", "dev", "lo")
+    for host, is_reached in (("0.0.0.0", True), ("10.9.8.7", True), ("127.0.0.1", False)):
+        node = trial.node(trial.scripts(silent), name=f"at {host}", http=f"{host}:9560", listen="127.0.0.1:9561")
+        node.run(network.enter)
+        inside = "127.0.0.1" if host == "127.0.0.1" else "10.9.8.7"
+        reached = eventually(lambda inside=inside: run([*network.enter, sys.executable, "-c", ASK, f"{inside}:9560"]).said == "200\n")
+        trial.check("setting http", reached, f"{host} does not answer at {inside}")
+        for port, wanted in ((9560, is_reached), (9561, False)):
+            ran = run([*network.enter, sys.executable, "-c", ASK, f"10.9.8.7:{port}"])
+            trial.equal("setting http", (host, port, ran.said == "200\n", "refused" in ran.error), (host, port, wanted, not wanted))
+        node.kill()
 
 
 @suite.case()

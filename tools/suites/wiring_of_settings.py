@@ -471,14 +471,14 @@ def outline(trial):
     masters = [f"127.0.0.1:{port}" for port in ports]
     node = trial.node(masters, machine=6, faulty=0, workers=7, drift=321, poll="31ms", wait="32ms", floor_ahead="33ms", idle="34s",
                       lease_lo=35, lease_hi=36, stampers=[38, 39], on_break="warn", max_width="37ms", evidence="evidence", vmclock="vmclock",
-                      http="127.0.0.1:40", clock="monotonic", slew=41)
+                      http="10.0.0.1:40", clock="monotonic", slew=41)
     growth = 2 * -(-63_000_000 * 321 // 1_000_000)
     widths = [f"width {trip} {trip + -(-trip * 321 // 1_000_000) + growth}" for trip in (100_000, 1_000_000, 10_000_000, 100_000_000)]
     # A clock that loses 320,896 parts of a billion loses 321 parts of a million of what it shows, and so does one that gains 321,103.
     numbers = {"faulty": 0, "workers": 7, "drift": 321, "rates": "320896 321103", "clock": "monotonic", "slew": 41, "poll": 31_000_000,
                "wait": 32_000_000, "floor_ahead": 33_000_000, "idle": 34 * SECOND, "lease": "35 36",
                "stampers": "38 39", "on_break": "warn", "max_width": 37_000_000, "growth": growth, "threads": 15, "memory": 4_194_304 + 7 * 131_072, "descriptors": 32 + 64 + 7 * (3 + 320 + 107 + 1)}
-    lines = ["machine 6", f"listen 127.0.0.1:{node.address[1]}", "http 127.0.0.1:40", *(f"master {master}" for master in masters),
+    lines = ["machine 6", f"listen 127.0.0.1:{node.address[1]}", "http 10.0.0.1:40", *(f"master {master}" for master in masters),
              *(f"{name} {value}" for name, value in numbers.items()),
              *(f"{name} {node.path(name)}" for name in ("state", "socket", "shared", "status")), "evidence evidence", "vmclock vmclock",
              "limit 200 49"]
@@ -656,7 +656,9 @@ REFUSED = [
     ({"stampers": "[5, 4]", "lease_lo": "36", "lease_hi": "35"}, 1804, "lease_hi: 35 is below lease_lo"),
     ({"stampers": "[5, 4]", "listen": '"10.0.0.1:1"'}, 1804, f"stampers: [5, 4]: {ENDS}"),
     ({"listen": '"10.0.0.1:1"'}, 1805, 'listen: "10.0.0.1:1": an address of this host, as 127.0.0.1:7001'),
-    ({"http": '"10.0.0.1:1"'}, 1805, 'http: "10.0.0.1:1": an address of this host, as 127.0.0.1:7001'),
+    ({"http": '"localhost:1"'}, 1805, 'http: "localhost:1": an address of this host, as 127.0.0.1:7001'),
+    ({"http": '"10.0.0.1:01"'}, 1805, 'http: "10.0.0.1:01": an address of this host, as 127.0.0.1:7001'),
+    ({"http": '"10.0.0.1:0"'}, 1804, 'http: "10.0.0.1:0": an address of this host, as 127.0.0.1:7001, with a port from 1'),
     ({"http": '"127.0.0.1:0"'}, 1804, 'http: "127.0.0.1:0": an address of this host, as 127.0.0.1:7001, with a port from 1'),
     ({"http": "7001"}, 1804, "http: 7001: an address of this host, as 127.0.0.1:7001, in quotes, with a port from 1"),
     ({"http": '"127.0.0.1:0"', "log": '"Json"'}, 1804, 'http: "127.0.0.1:0": an address of this host, as 127.0.0.1:7001, with a port from 1'),

@@ -2,6 +2,8 @@
 use Rattle.std.specs.Prelude.{codes, ℕ, ◌+◌, ◌*◌, List, [], ◌∷◌, ◌++◌, Option, Some, None, is_some, Bool, true, false}
 use Rattle.std.specs.List.{flat_map}
 use Rattle.std.specs.Fmt.{decimal}
+use Rattle.std.specs.declared.net.socket_addr.SocketAddr.{SocketAddr}
+use Rattle.std.specs.Net.Text.{socket_text}
 use Rattle.tt_span.specs.Drift.{widening}
 use Rattle.tt_span.specs.Interval.{Interval}
 use Rattle.tt_daemon.specs.Config.{Configuration}
@@ -140,8 +142,8 @@ width_text (Some width) = line_of (codes "max_width") (width ∷ [])
 width_text None = []
 
 -- where it serves pages, if it does
-abbrev pub http_text : Option ℕ → List ℕ
-http_text (Some port) = address_text (codes "http") port
+abbrev pub http_text : Option SocketAddr → List ℕ
+http_text (Some address) = codes "http " ++ socket_text address ++ codes "\n"
 http_text None = []
 
 -- its numbers

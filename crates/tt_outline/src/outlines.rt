@@ -7,6 +7,7 @@ ghost use Rattle.tt_outline.specs.Outline.{outline_text, word_line, path_line, m
 
 use crate::rates::{gain_covered, loss_covered};
 use std::alloc::{AllocError, Global};
+use std::net::SocketAddr;
 use tt_daemon::Config;
 use tt_host::HostClock;
 use tt_server::{has_names, needed_descriptors};
@@ -261,11 +262,11 @@ fn push_stampers(text: &mut String, stampers: Option<Span>) -> Result<(), AllocE
 }
 
 /// Adds the line of the address at which pages are served, if they are.
-fn push_http(text: &mut String, http: Option<u16>) -> Result<(), AllocError>
+fn push_http(text: &mut String, http: Option<SocketAddr>) -> Result<(), AllocError>
     ensures { OnOk result (string_bytes text.new ≡ string_bytes text.old ++ http_text http) }
 {
     match http {
-        Some(port) => push_address(text, "http", port),
+        Some(address) => write!(text, "http {address}\n"),
         None => Ok(()),
     }
 }

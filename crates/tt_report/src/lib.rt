@@ -26,7 +26,7 @@
 //!
 //! Who has a thread of its own for another file hands over to it by a [`Lane`], too.
 //!
-//! The pages have a thread of their own as well ([`Pages`]). It serves up to 8 connections by turns, only from loopback, each
+//! The pages have a thread of their own as well ([`Pages`]). It serves up to 8 connections by turns, from other hosts only where its address is not of loopback, each
 //! for two seconds in all, and waits for none. If one more comes, the one that was accepted before all others is closed. A
 //! client that takes its time costs the others nothing.
 //!

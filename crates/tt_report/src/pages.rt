@@ -40,6 +40,8 @@ pub struct Pages {
     pub listener: TcpListener,
     /// By what the machine is judged.
     pub limits: Limits,
+    /// Whether they are given to other hosts, too.
+    pub is_open: bool,
 }
 
 /// What was handed over last.
@@ -199,7 +201,7 @@ impl PageHost {
         for _ in 0..ACCEPTS {
             match self.pages.listener.accept() {
                 Ok((stream, peer)) => {
-                    if peer.ip().is_loopback() {
+                    if self.pages.is_open || peer.ip().is_loopback() {
                         self.put(Visitor::new(self.alloc, stream, now));
                     }
                 }

@@ -15,7 +15,7 @@ use mio::Waker;
 use std::alloc::Global;
 use std::fs::Files;
 use std::io::{Eprint, ErrorKind};
-use std::net::{Ipv4Addr, Net, TcpListener, TcpStream};
+use std::net::{Net, TcpListener, TcpStream};
 use std::sync::Wait;
 use std::thread::Threads;
 use std::time::Clock as SystemClock;
@@ -25,7 +25,7 @@ use tt_files::Reason;
 use tt_pages::Limits;
 use tt_publish::{Teller, Watch, open};
 use tt_report::{Disk, Pages, Reporter, ReporterFault};
-use tt_settings::Settings;
+use tt_settings::{Settings, is_loopback};
 
 /// The acceptor of connections, and what ends its waits.
 pub(crate) fn acceptor_of<R: Net>(rt: &R, alloc: Global) -> Result<(Acceptor, Waker), ServerFault> {
@@ -96,10 +96,10 @@ pub(crate) fn pages_of<R: Net<Listener = TcpListener, Stream = TcpStream>>(
     rt: &R,
     settings: &Settings,
 ) -> Result<Option<Pages>, ServerFault> {
-    let Some(port) = settings.http() else {
+    let Some(address) = settings.http() else {
         return Ok(None);
     };
-    match TcpListener::bind(rt, (Ipv4Addr::LOCALHOST, port)) {
+    match TcpListener::bind(rt, address) {
         Ok(listener) => {
             let pauses = settings.pauses();
             let limits = Limits::of(
@@ -108,7 +108,11 @@ pub(crate) fn pages_of<R: Net<Listener = TcpListener, Stream = TcpStream>>(
                 pauses.wait,
                 settings.shared().is_some(),
             );
-            Ok(Some(Pages { listener, limits }))
+            Ok(Some(Pages {
+                listener,
+                limits,
+                is_open: !is_loopback(address),
+            }))
         }
         Err(error) => Err(fault_of(
             error.kind(),

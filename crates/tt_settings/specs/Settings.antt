@@ -1,5 +1,6 @@
 -- What a configuration file means.
 use Rattle.std.specs.Prelude.{ℕ, List, Option, Some, None, Result, Ok, Err}
+use Rattle.std.specs.declared.net.socket_addr.SocketAddr.{SocketAddr}
 use Rattle.toml.specs.Data.{Members}
 use Rattle.toml.specs.Parse.{parse_document}
 use Rattle.tt_span.specs.Interval.{Interval}
@@ -35,7 +36,7 @@ pub record Meaning : Type 0 where
   pub lease : Interval
   pub stampers : Option Interval
   pub listen : ℕ
-  pub http : Option ℕ
+  pub http : Option SocketAddr
   pub log : LogFormat
   pub on_break : OnBreak
   pub max_width : Option ℕ

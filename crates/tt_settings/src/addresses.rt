@@ -2,21 +2,23 @@
 
 ghost use Rattle.std.specs.Prelude.{◌≡◌};
 ghost use Rattle.toml.specs.View.{view, table_view};
-ghost use Rattle.tt_settings.specs.Address.{port_of, address_in, address_at, fixed_in, http_in, ports_in};
+ghost use Rattle.tt_settings.specs.Address.{port_of, address_in, address_at, open_in, http_in, ports_in};
 
 use crate::faults::SettingsFault;
 use crate::keys::Key;
 use crate::lookups::{found_at, text_in, value_at};
 use crate::numerals::number_of;
+use crate::sockets::address_of;
+use std::net::SocketAddr;
 use toml::{Table, Value};
 
-/// The ports of 127.0.0.1 at which a machine answers.
+/// Where a machine answers.
 #[derive(Clone, Copy)]
 pub(crate) struct Ports {
-    /// That of its sessions.
+    /// The port of 127.0.0.1 of its sessions.
     pub(crate) listen: u16,
-    /// That of its pages over HTTP, if it has some.
-    pub(crate) http: Option<u16>,
+    /// The address of its pages over HTTP, if it has some.
+    pub(crate) http: Option<SocketAddr>,
 }
 
 /// The port of an address of this host. The text is `127.0.0.1:` and the port, from 0 to 65535, in decimal digits
@@ -50,32 +52,36 @@ fn address_at(table: &Table, key: Key) -> Result<u16, SettingsFault>
     address_in(key, value_at(table, key)?)
 }
 
-/// The port of the address that a value is. Refuses port 0 with 1804 `WrongValue` of this key, since no one could know
-/// which port it became.
-fn fixed_in(key: Key, value: &Value) -> Result<u16, SettingsFault>
-    ensures { result ≡ fixed_in key (view value.now) }
+/// The address that a value is, in its one spelling. Refuses port 0 with 1804 `WrongValue` of this key, since no one could
+/// know which port it became.
+fn open_in(key: Key, value: &Value) -> Result<SocketAddr, SettingsFault>
+    ensures { result ≡ open_in key (view value.now) }
 {
-    let port = address_in(key, value)?;
-    if port == 0 {
-        return Err(SettingsFault::WrongValue(key));
+    match address_of(text_in(key, value)?) {
+        Some(address) => {
+            if address.port() == 0 {
+                return Err(SettingsFault::WrongValue(key));
+            }
+            Ok(address)
+        }
+        None => Err(SettingsFault::NotLocal(key)),
     }
-    Ok(port)
 }
 
-/// The port of the address for pages over HTTP, if one is given.
-fn http_in(table: &Table) -> Result<Option<u16>, SettingsFault>
+/// The address for pages over HTTP, if one is given. It may be any of this host, or 0.0.0.0 or [::] for all of them.
+fn http_in(table: &Table) -> Result<Option<SocketAddr>, SettingsFault>
     ensures { result ≡ http_in (table_view table.now) }
 {
     match found_at(table, Key::Http) {
         Some(value) => {
-            let port = fixed_in(Key::Http, value)?;
-            Ok(Some(port))
+            let address = open_in(Key::Http, value)?;
+            Ok(Some(address))
         }
         None => Ok(None),
     }
 }
 
-/// The ports at which a machine answers.
+/// Where a machine answers.
 #[tactic(auto, unfolding(crate::specs::Address::ports_in))]
 pub(crate) fn ports_in(table: &Table) -> Result<Ports, SettingsFault>
     ensures { result ≡ ports_in (table_view table.now) }

@@ -22,6 +22,7 @@ use crate::refusals::Refusal;
 use crate::texts::{FilePath, Paths, paths_in};
 use std::alloc::Global;
 use std::marker::Model;
+use std::net::SocketAddr;
 use toml::Table;
 use tt_daemon::Config;
 use tt_host::HostClock;
@@ -119,8 +120,8 @@ impl Settings {
         self.ports.listen
     }
 
-    /// The port of 127.0.0.1 at which it gives its status over HTTP, from 1. None if it does not.
-    pub fn http(&self) -> Option<u16>
+    /// The address at which it gives its status over HTTP, with a port from 1. None if it does not. It may be any address.
+    pub fn http(&self) -> Option<SocketAddr>
         ensures value { result ≡ self.now.http }
     {
         self.ports.http
@@ -215,7 +216,7 @@ impl Settings {
 /// `stampers` (the two ends of an interval, as `[5, 6]`, in nanoseconds; default: none), `log` (`"text"` or `"json"`;
 /// default `"text"`), `on_break` (`"end"` or `"warn"`; default `"end"`), `max_width` (from 0 to an hour, as `"10ms"`;
 /// default: no limit), `socket`, `shared`, `status`, `evidence`, `vmclock` and `keys` (paths; default: none). `listen` is
-/// `127.0.0.1:` and a port, and so is `http` (default: none), with a port from 1; a length of time is as
+/// `127.0.0.1:` and a port, `http` any address with a port from 1 (default: none); a length of time is as
 /// [`duration_of`](crate::duration_of) reads it.
 ///
 /// In the short form `masters` lists addresses. In the long form there is a table `[[master]]` for each, with `address` and,

@@ -105,10 +105,10 @@ pub(crate) fn say_place<H: Eprint>(rt: &H, settings: &Settings, fault: ServerFau
             let port = settings.listen();
             eprint!(rt; "ttd: 127.0.0.1:{port}: {fault}\n")
         }
-        ServerFault::CannotServePages(_) => {
-            let port = settings.http().unwrap_or(0);
-            eprint!(rt; "ttd: 127.0.0.1:{port}: {fault}\n")
-        }
+        ServerFault::CannotServePages(_) => match settings.http() {
+            Some(address) => eprint!(rt; "ttd: {address}: {fault}\n"),
+            None => Ok(()),
+        },
         ServerFault::CannotListenSocket(_) | ServerFault::NotSocket => {
             let path = text_of(settings.socket());
             eprint!(rt; "ttd: {path}: {fault}\n")
