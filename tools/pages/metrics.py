@@ -19,14 +19,14 @@ The label `number` is that of a [refusal](refusals.md), and `server` counts from
 PAGES = """
 ## The pages at `http`
 
-A machine answers one request of HTTP/1.0 or 1.1 a connection, from this host: GET, or HEAD for the head alone. Fields, and in a path what \
+A machine answers one request of HTTP/1.0 or 1.1 a connection, from this host, and from others where the address is not of loopback: GET, or HEAD for the head alone. Fields, and in a path what \
 follows `?`, are ignored. A head has at most 4,096 bytes and 64 fields. A connection is closed after two seconds, and the first of eight if \
 a ninth comes.
 
 - `/`: 200 and a page for people: what `ttd top` draws, as SVG, read again each two seconds; made once a status at most
 - `/metrics`: 200 and the status, of the type `text/plain; version=0.0.4; charset=utf-8`; 503 before the first round has ended
 - `/evidence`: 200 and the evidence of the last publication; 404 before the first
-- `/health`: 200 and `ok`, or 503 and a line for each reason (below)
+- `/health`: 200 and `ok`, or 503 and a line for each reason (below); for ten minutes after a break also a line `last_life_broke`
 - any other path gets 404, any other method 405 with `Allow: GET, HEAD`, what cannot become a request 400, and a longer head 431
 
 An answer has `Content-Length`, `Connection: close` and a `Content-Type`, which is `text/plain; charset=utf-8` except for `/metrics` and `/` (`text/html`). The \

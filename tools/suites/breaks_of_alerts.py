@@ -2,17 +2,19 @@
 import contextlib
 import json
 import os
+import re
 import socket
 import subprocess
 import urllib.parse
 import urllib.request
 
 from harness.processes import free_port
-from harness.program import in_top, read_text, write
+from harness.program import in_top, read_text, run, write
 from harness.trouble import disrupt, page
 from suites.breaks import suite
 from suites.breaks_world import World
 from suites.wiring_checks import eventually
+from suites.wiring_of_pages import get
 
 ALERT, OFTEN = "TruetimeAssumptionBroken", "500ms"
 
@@ -71,3 +73,31 @@ def broken_life_pages(trial):
     if world.number("assumption_breaks_total") != 0:
         yield f"{world.number('assumption_breaks_total')} breaks in the new life"
     yield from world.goes_on_rightly()
+
+
+@suite.case()
+def broken_life_is_told(trial):
+    """Once a life has broken, the next one is well by `/health`, which has a line of it, and `top` says when and why."""
+    path, port = os.path.join(trial.room, "vmclock0"), free_port(socket.SOCK_STREAM)
+    write(path, page(1))
+    world = World(trial, vmclock=path, http=f"127.0.0.1:{port}")
+    if not eventually(lambda: get(port, "/health").text == "ok\n", 20):
+        yield f"before any break: {get(port, '/health')}"
+    if world.number("last_break_timestamp_seconds") is None:
+        trial.note("the status does not say when a life broke: left out")
+        return
+    ended, status = world.end(disrupt(path, 2))
+    if not ended or status != 3:
+        yield f"the break: status {status}"
+
+    def told():
+        with contextlib.suppress(OSError, ValueError):
+            answer = get(port, "/health")
+            return answer.words == "200 OK" and re.fullmatch(r"ok\nlast_life_broke \d+ s ago: assumption_broken\n", answer.text)
+        return None
+
+    if not eventually(told, 20):
+        yield f"after the break: {get(port, '/health')}"
+    ran = run([trial.program, "top", world.node.path("node.toml"), "--once"], cwd=world.node.folder)
+    if not re.search(r"^! the last life broke +\d+\.\d{3} ( s|ms) ago: assumption_broken$", ran.said, re.M):
+        yield f"top: {ran.said}{ran.error}"

@@ -54,7 +54,8 @@ FILES = {
         f"{MODULE}-{VERSION}.dist-info/METADATA": None, f"{MODULE}-{VERSION}.dist-info/INSTALLER": None,
     },
     "truetime": {
-        "usr/bin/ttd": None, "usr/share/man/man1/ttd.1.gz": None, "usr/share/man/man5/node.toml.5.gz": None,
+        "usr/bin/ttd": None, "usr/bin/truetime-top": "packaging/truetime-top", "usr/share/man/man1/ttd.1.gz": None,
+        "usr/share/man/man1/truetime-top.1.gz": None, "usr/share/man/man5/node.toml.5.gz": None,
         **{f"usr/libexec/truetime/{name}": f"packaging/{name}" for name in ("await", "run", "stands-still")},
         **{f"{UNITS}/{name}": f"packaging/{name}" for name in (
             "truetime@.service", "truetime-master@.service", "truetime-watch@.service", "truetime-watch@.timer")},
@@ -82,7 +83,7 @@ FIELDS = {
     "truetime": {"Recommends": "chrony | time-daemon", "Suggests": "prometheus, prometheus-node-exporter", "Section": "net",
                  "Pre-Depends": "", "Conflicts": ""},
 }
-PROGRAMS = {"usr/bin/ttd", *(f"usr/libexec/truetime/{name}" for name in ("await", "run", "stands-still"))}
+PROGRAMS = {"usr/bin/ttd", "usr/bin/truetime-top", *(f"usr/libexec/truetime/{name}" for name in ("await", "run", "stands-still"))}
 # What packaging/install leaves to the packages.
 NOT_BY_INSTALL = re.compile(r"usr/share/(pkgconfig|cmake)/|usr/lib/python3|usr/(lib|share|share/doc)/postgresql")
 

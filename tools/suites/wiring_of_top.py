@@ -1,16 +1,19 @@
 """Scenarios of the suite `wiring`: what `ttd top` shows of a machine."""
 import contextlib
+import fcntl
 import os
 import pty
 import re
 import signal
 import socket
+import struct
 import subprocess
+import termios
 import time
 import xml.etree.ElementTree
 
 from harness.processes import free_port
-from harness.program import read_text, run, write
+from harness.program import in_top, read_text, run, write
 from harness.trouble import Answerer, Spoils, honest, silent
 from suites.wiring import suite
 from suites.wiring_checks import eventually, spans
@@ -45,6 +48,10 @@ def top_once(trial):
                 continue
             trial.equal("top", (ran.status, ran.error), (0, ""))
             lines = ran.said.splitlines()
+            # A file has an age, which one look at an address does not know.
+            if not place.startswith("127."):
+                trial.check("top", re.fullmatch(r"status +\d+\.\d{3} (us|ms) old", lines[0]), lines[0])
+                del lines[0]
             trial.check("top", lines[0].startswith(f"machine 5  epoch {epoch}  rounds ") and lines[0].endswith("  sources 5  known 4  f 2"), lines[0])
             trial.equal("top", [line[:6].strip() for line in lines[2:8]], ["0", "1", "2", "3", "4", "fused"])
             bars = [line[6:columns - 45] for line in lines[2:8]]
@@ -55,7 +62,7 @@ def top_once(trial):
             trial.check("top", ran.said.isascii() and "! 1 suspects\n" in ran.said and "\x1b" not in ran.said, ran.said)
     wide, plain, other = (run([trial.program, "top", node.path("node.toml"), "--once", *words], env=PLAIN | more, cwd=node.folder).said.splitlines()
                           for words, more in ((("--columns", "80"), {}), ((), {}), ((), {"COLUMNS": "wide"})))
-    trial.equal("top", (len(plain[1]), len(other[1])), (len(wide[1]), ) * 2)
+    trial.equal("top", (len(plain[2]), len(other[2])), (len(wide[2]), ) * 2)
 
 
 @suite.case()
@@ -112,7 +119,7 @@ def top_of_one_that_falls_silent(trial):
     node.wait_until_ready()
     ran = eventually(lambda: (seen := run([trial.program, "top", node.path("node.toml"), "--once"], env=PLAIN, cwd=node.folder)).said.count(
         " silent\n") == 1 and seen, 20)
-    trial.check("top", ran and ran.said.splitlines()[4].startswith("    2 ") and ran.said.splitlines()[4].endswith(" silent"),
+    trial.check("top", ran and ran.said.splitlines()[5].startswith("    2 ") and ran.said.splitlines()[5].endswith(" silent"),
                 f"no source is silent, or another one: {ran and ran.said}")
 
 
@@ -127,16 +134,107 @@ def top_of_one_that_stands(trial):
         return run([trial.program, "top", node.path("node.toml"), "--once"], env=PLAIN, cwd=node.folder).said.splitlines()
 
     first = eventually(shown, 20)
-    trial.check("top", first and not first[0].startswith("!"), f"it is told to be old: {first}")
+    trial.check("top", first and re.fullmatch(r"status +\d+\.\d{3} (us|ms) old", first[0]), f"it is told to be old: {first}")
     node.running.send_signal(signal.SIGSTOP)
     stopped = time.monotonic()
     time.sleep(3)
     old = shown()
-    age = re.fullmatch(r"! the status is (\d+) s old", old[0])
+    age = re.fullmatch(r"! status +(\d+\.\d{3})  s old", old[0])
     node.running.send_signal(signal.SIGCONT)
     trial.check("top", age, f"its age is not told: {old[0]}")
-    trial.between("top", 3, int(age[1]) if age else 0, time.monotonic() - stopped + 1)
-    trial.check("top", old[1:] and old[1].split()[0] == first[0].split()[0], f"another picture: {old[1:2]}")
+    trial.between("top", 3, float(age[1]) if age else 0, time.monotonic() - stopped + 1)
+    trial.check("top", old[1:] and old[1].split()[0] == first[1].split()[0], f"another picture: {old[1:2]}")
+
+
+def folder_of(trial, **settings):
+    """A machine that does not run, whose files are STATUS and EVIDENCE."""
+    node = trial.node(trial.scripts(*[silent] * 4), evidence="evidence", status="status", poll="1s", wait="1s", machine=7, **settings)
+    write(node.path("status"), STATUS.encode())
+    write(node.path("evidence"), EVIDENCE.encode())
+    return node
+
+
+@suite.case()
+def top_above_the_limit(trial):
+    """Readings are 2.5 ms wide. It is told where they may be 2 ms, and not where they may be 3."""
+    for name, limit, wanted in (("A", "2ms", ["! readings are wider than max_width   2.000 ms: clients are refused (1824)"]), ("B", "3ms", []), ("C", None, [])):
+        node = folder_of(trial, name=name, max_width=limit)
+        said = run([trial.program, "top", node.path("node.toml"), "--once"], env=PLAIN, cwd=node.folder).said
+        trial.equal("setting max_width", (limit, [line for line in said.splitlines() if "wider" in line]), (limit, wanted))
+        trial.equal("top", said.splitlines()[-1], "= source  x suspect  # fused  < > beyond  ? none  [ ] ends held")
+
+
+@suite.case()
+def top_after_a_break(trial):
+    """For ten minutes it is told that the last life broke, when and why."""
+    node = folder_of(trial)
+    for ago, info, wanted in ((60, 1, r"! the last life broke +6\d\.\d{3}  s ago: assumption_broken"), (60, 0, r"! the last life broke +6\d\.\d{3}  s ago"), (580, 1, ".*"),
+                              (610, 1, None), (None, 0, None)):
+        at = 0 if ago is None else time.time() - ago
+        more = f'truetime_last_break_timestamp_seconds{{machine="7"}} {at:.9f}\ntruetime_last_break_info{{machine="7",event="assumption_broken"}} {info}\n'
+        write(node.path("status"), (STATUS + more).encode())
+        said = run([trial.program, "top", node.path("node.toml"), "--once"], env=PLAIN, cwd=node.folder).said
+        lines = [line for line in said.splitlines() if "broke" in line]
+        trial.check("metric last_break", bool(lines) == bool(wanted) and (not wanted or re.fullmatch(wanted, lines[0])), f"{ago} s ago: {lines}")
+
+
+def frames_of(shown, number):
+    """So many whole pictures of a `top` that goes on."""
+    said = b""
+    while said.count(CLEAR) <= number:
+        said += os.read(shown.stdout.fileno(), 65536)
+    return [frame.decode() for frame in said.split(CLEAR)[1:number + 1]]
+
+
+@suite.case()
+def top_of_what_is_past(trial):
+    """A count of what is past has a time: that of the last look at which it was less, or for how long it was seen to stay as it is. LINES says how many
+    lines there are."""
+    node = folder_of(trial)
+    stale = STATUS + 'truetime_rounds_stale_total{machine="7"} 70\ntruetime_source_packets_unsent_total{machine="7",source="2"} 3\n'
+    write(node.path("status"), stale.encode())
+    said = run([trial.program, "top", node.path("node.toml"), "--once"], env=PLAIN, cwd=node.folder).said.splitlines()
+    trial.check("metric rounds_stale_total", "! 70 rounds without fresh answers of enough sources in this life" in said, f"{said}")
+    trial.check("metric source_packets_unsent_total", "! source 2: 3 packets could not be sent in this life" in said, f"{said}")
+    with subprocess.Popen([trial.program, "top", node.path("node.toml")], env=PLAIN, cwd=node.folder, stdin=subprocess.PIPE, stdout=subprocess.PIPE) as shown:
+        sign = "! 70 rounds without fresh answers of enough sources in this life: none within"
+        frames = frames_of(shown, 3)
+        lasted = [float(found[1]) for frame in frames if (found := re.search(re.escape(sign) + r" +(\d+\.\d{3}) (?:ms| s)\n", frame))]
+        trial.equal("metric rounds_stale_total", len(lasted), 2)
+        write(node.path("status"), stale.replace("} 70\n", "} 71\n").encode())
+        rose = [frame for frame in frames_of(shown, 3) if "! 71 rounds" in frame]
+        trial.check("metric rounds_stale_total", rose and re.search(r"! 71 rounds without fresh answers of enough sources: the last within +\d+\.\d{3} (ms| s)\n", rose[-1]), f"{rose}")
+        trial.check("metric source_packets_unsent_total", rose and "! source 2: 3 packets could not be sent in this life: none within" in rose[-1], f"{rose}")
+        for given in (b"x\nyq\n", b"q\n"):
+            trial.check("top", shown.poll() is None, "it has ended")
+            shown.stdin.write(given)
+            shown.stdin.flush()
+            time.sleep(1.5)
+        trial.equal("top", shown.poll(), 0)
+    with subprocess.Popen([trial.program, "top", node.path("node.toml")], env=PLAIN | {"LINES": "5"}, cwd=node.folder, stdin=subprocess.DEVNULL,
+                          stdout=subprocess.PIPE) as shown:
+        trial.equal("top", [frame.count("\n") for frame in frames_of(shown, 2)], [4, 4])
+        shown.kill()
+
+
+@suite.case()
+def top_in_a_terminal(trial):
+    """The wrapper takes the size of the terminal, ends at the key q, and leaves the terminal as it was."""
+    node = folder_of(trial)
+    reading, writing = pty.openpty()
+    termios.tcsetwinsize(writing, (9, 120)) if hasattr(termios, "tcsetwinsize") else fcntl.ioctl(writing, termios.TIOCSWINSZ, struct.pack("4H", 9, 120, 0, 0))
+    before, said = termios.tcgetattr(writing), b""
+    with subprocess.Popen([in_top("packaging/truetime-top"), node.path("node.toml")], env=PLAIN | {"TTD": trial.program, "TERM": "dumb", "NO_COLOR": "1"}, cwd=node.folder, stdin=writing,
+                          stdout=writing, stderr=writing, start_new_session=True) as shown:
+        while said.count(CLEAR) < 2:
+            said += os.read(reading, 65536)
+        os.write(reading, b"q")
+        trial.equal("truetime-top", shown.wait(10), 0)
+    trial.equal("truetime-top", termios.tcgetattr(writing), before)
+    frame = said.split(CLEAR)[1].decode().replace("\r", "").splitlines()
+    trial.equal("truetime-top", (len(frame), max(map(len, frame))), (9, 120))
+    os.close(reading)
+    os.close(writing)
 
 
 @suite.case()
@@ -306,9 +404,7 @@ def bars_in(document):
 @suite.case()
 def top_as_svg(trial):
     """One document with a view box: a bar for each span, where the axis has its times."""
-    node = trial.node(trial.scripts(*[silent] * 4), evidence="evidence", status="status", max_width="2ms", machine=7)
-    write(node.path("status"), STATUS.encode())
-    write(node.path("evidence"), EVIDENCE.encode())
+    node = folder_of(trial, max_width="2ms")
     ran = run([trial.program, "top", node.path("node.toml"), "--svg"], env=PLAIN | {"LANG": "C.UTF-8"}, cwd=node.folder)
     document = xml.etree.ElementTree.fromstring(ran.said)
     trial.equal("top --svg", (document.tag.endswith("svg"), document.get("viewBox")), (True, "0 0 960 500"))

@@ -1,5 +1,6 @@
 -- Whether a machine is well.
-use Rattle.std.specs.Prelude.{codes, ℕ, ◌+◌, ◌*◌, ◌-◌, ◌^◌, min, nat_eq, nat_lt, Bool, true, false, not, ◌&&◌, if◌then◌else◌, List, [], ◌++◌, Option, Some, None}
+use Rattle.std.specs.Prelude.{codes, ℕ, ◌+◌, ◌*◌, ◌-◌, ◌/◌, ◌^◌, min, nat_eq, nat_le, nat_lt, Bool, true, false, not, ◌&&◌, if◌then◌else◌, List, [], ◌++◌, Option, Some, None}
+use Rattle.std.specs.Fmt.{decimal}
 use Rattle.tt_status.specs.declared.statuses.Status.{Status}
 use Rattle.tt_pages.specs.declared.healths.Limits.{Limits}
 use Rattle.tt_pages.specs.declared.healths.Health.{Health}
@@ -60,3 +61,20 @@ reasons_text h =
     ++ line_if h.stale (codes "sources_stale: fewer than n - f sources have answered within three rounds\n")
     ++ line_if h.unshared (codes "sharing_ended: the shared file is not written\n")
     ++ line_if h.still (codes "status_old: the last round was made ten rounds ago\n")
+
+-- the life before ended so long ago by a broken assumption
+abbrev pub broke_line : ℕ → List ℕ
+broke_line ago = codes "last_life_broke " ++ decimal (ago / 1000000000) ++ codes " s ago: assumption_broken\n"
+
+-- the same, for ten minutes
+abbrev pub broke_text : Option ℕ → List ℕ
+broke_text None = []
+broke_text (Some ago) = if nat_le ago 600000000000 then broke_line ago else []
+
+-- that the machine is well, or why it is not
+abbrev pub judged_text : Health → List ℕ
+judged_text h = if is_well h then codes "ok\n" else reasons_text h
+
+-- whether it is well, and whether the life before was not
+unfoldable pub told_text : Health → Option ℕ → List ℕ
+told_text h broke = judged_text h ++ broke_text broke

@@ -1,11 +1,11 @@
 //! The bytes of an answer.
 
 ghost use Rattle.std.specs.Prelude.{◌≡◌, ◌++◌, OnOk, IfOk, option_map, string_bytes};
-ghost use Rattle.tt_pages.specs.Answer.{answer_text, content_of, end_text, evidence_content, health_content, length_text, line_text, metrics_content, more_of, page_text, reply_text, shown_of, start_content, type_of, type_text, wanted_text, words_of, words_text};
+ghost use Rattle.tt_pages.specs.Answer.{answer_text, content_of, end_text, evidence_content, health_code, health_content, length_text, line_text, metrics_content, more_of, page_text, reply_text, shown_of, start_content, type_of, type_text, wanted_text, words_of, words_text};
 ghost use Rattle.tt_pages.specs.Health.{health_of};
 ghost use Rattle.tt_pages.specs.Start.{start_text};
 
-use crate::healths::{Health, Limits, health_of, push_reasons};
+use crate::healths::{Health, Limits, health_of, push_health};
 use crate::requests::{Asked, Page, Wanted};
 use crate::starts::push_start;
 use std::alloc::{AllocError, Global};
@@ -22,6 +22,8 @@ pub struct Report<'a> {
     pub evidence: &'a Option<String>,
     /// The part of a page of HTML that shows its last status, if that was drawn.
     pub drawing: &'a Option<String>,
+    /// How long ago the life before this one ended by a broken assumption, in nanoseconds, if it did.
+    pub broke: Option<u64>,
     /// By what it is judged.
     pub limits: Limits,
 }
@@ -121,18 +123,24 @@ fn evidence_content(alloc: Global, evidence: &Option<String>) -> Result<Content,
 }
 
 /// Whether the machine is well.
-fn health_content(alloc: Global, health: &Health) -> Result<Content, AllocError>
-    ensures { IfOk result (λ content. (content.code, string_bytes content.text) ≡ health_content health.now) }
+fn health_content(alloc: Global, health: &Health, broke: Option<u64>) -> Result<Content, AllocError>
+    ensures { IfOk result (λ content. (content.code, string_bytes content.text) ≡ health_content health.now broke) }
+{
+    let mut text = String::new(alloc);
+    push_health(&mut text, health, broke)?;
+    let code = code_of(health);
+    Ok(Content { code, text })
+}
+
+/// The code for a machine of this health.
+fn code_of(health: &Health) -> Code
+    ensures { result ≡ health_code health.now }
 {
     if health.is_well() {
-        return content_with(alloc, Code::Found, "ok\n");
+        Code::Found
+    } else {
+        Code::NotReady
     }
-    let mut text = String::new(alloc);
-    push_reasons(&mut text, health)?;
-    Ok(Content {
-        code: Code::NotReady,
-        text,
-    })
 }
 
 /// The page for people.
@@ -154,14 +162,14 @@ fn page_content(
     page: Option<Page>,
     report: &Report<'_>,
 ) -> Result<Content, AllocError>
-    ensures { IfOk result (λ content. (content.code, string_bytes content.text) ≡ content_of page report.now.status.now (health_of report.now.status.now report.now.age report.now.limits) (option_map string_bytes report.now.evidence.now) (start_text (health_of report.now.status.now report.now.age report.now.limits) report.now.age (option_map string_bytes report.now.drawing.now))) }
+    ensures { IfOk result (λ content. (content.code, string_bytes content.text) ≡ content_of page report.now.status.now (health_of report.now.status.now report.now.age report.now.limits) report.now.broke (option_map string_bytes report.now.evidence.now) (start_text (health_of report.now.status.now report.now.age report.now.limits) report.now.age (option_map string_bytes report.now.drawing.now))) }
 {
     match page {
         Some(Page::Metrics) => metrics_content(alloc, report.status),
         Some(Page::Evidence) => evidence_content(alloc, report.evidence),
         Some(Page::Health) => {
             let health = health_of(report.status, report.age, &report.limits);
-            health_content(alloc, &health)
+            health_content(alloc, &health, report.broke)
         }
         Some(Page::Start) => start_content(alloc, report),
         None => content_with(alloc, Code::Unknown, "no such page\n"),
@@ -239,7 +247,7 @@ fn push_page(
     is_whole: bool,
 ) -> Result<(), AllocError>
     ensures { OnOk result (string_bytes text.new ≡ string_bytes text.old
-        ++ page_text page report.now.status.now (health_of report.now.status.now report.now.age report.now.limits) (option_map string_bytes report.now.evidence.now) (start_text (health_of report.now.status.now report.now.age report.now.limits) report.now.age (option_map string_bytes report.now.drawing.now)) is_whole) }
+        ++ page_text page report.now.status.now (health_of report.now.status.now report.now.age report.now.limits) report.now.broke (option_map string_bytes report.now.evidence.now) (start_text (health_of report.now.status.now report.now.age report.now.limits) report.now.age (option_map string_bytes report.now.drawing.now)) is_whole) }
 {
     let content = page_content(alloc, page, report)?;
     push_reply(text, content.code, content.text.as_str(), is_whole)
@@ -253,7 +261,7 @@ fn push_wanted(
     report: &Report<'_>,
 ) -> Result<(), AllocError>
     ensures { OnOk result (string_bytes text.new ≡ string_bytes text.old
-        ++ wanted_text wanted report.now.status.now (health_of report.now.status.now report.now.age report.now.limits) (option_map string_bytes report.now.evidence.now) (start_text (health_of report.now.status.now report.now.age report.now.limits) report.now.age (option_map string_bytes report.now.drawing.now))) }
+        ++ wanted_text wanted report.now.status.now (health_of report.now.status.now report.now.age report.now.limits) report.now.broke (option_map string_bytes report.now.evidence.now) (start_text (health_of report.now.status.now report.now.age report.now.limits) report.now.age (option_map string_bytes report.now.drawing.now))) }
 {
     match wanted {
         Wanted::Whole(page) => push_page(text, alloc, page, report, true),
@@ -270,7 +278,7 @@ pub fn push_answer(
     report: &Report<'_>,
 ) -> Result<(), AllocError>
     ensures answer { OnOk result (string_bytes text.new ≡ string_bytes text.old
-        ++ answer_text asked report.now.status.now (health_of report.now.status.now report.now.age report.now.limits) (option_map string_bytes report.now.evidence.now) (start_text (health_of report.now.status.now report.now.age report.now.limits) report.now.age (option_map string_bytes report.now.drawing.now))) }
+        ++ answer_text asked report.now.status.now (health_of report.now.status.now report.now.age report.now.limits) report.now.broke (option_map string_bytes report.now.evidence.now) (start_text (health_of report.now.status.now report.now.age report.now.limits) report.now.age (option_map string_bytes report.now.drawing.now))) }
 {
     match asked {
         Asked::Wants(wanted) => push_wanted(text, alloc, wanted, report),

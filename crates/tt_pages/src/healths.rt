@@ -1,13 +1,16 @@
 //! Whether a machine is well.
 
 ghost use Rattle.std.specs.Prelude.{◌≡◌, ◌++◌, OnOk, string_bytes, nat_lt};
-ghost use Rattle.tt_pages.specs.Health.{health_of, is_stale, is_well, is_wide, limits_of, line_if, reasons_text};
+ghost use Rattle.tt_pages.specs.Health.{broke_text, health_of, is_stale, is_well, is_wide, limits_of, line_if, reasons_text, judged_text, told_text};
 
 use std::alloc::AllocError;
 use tt_status::Status;
 
 /// A second, in nanoseconds.
 const SECOND: u64 = 1_000_000_000;
+
+/// For how long it is told that the life before broke, in nanoseconds: ten minutes.
+const TOLD: u64 = 600_000_000_000;
 
 /// By what a machine is judged.
 #[derive(Clone, Copy)]
@@ -117,6 +120,13 @@ impl Health {
     }
 }
 
+/// Adds a text.
+pub(crate) fn push_word(text: &mut String, word: &str) -> Result<(), AllocError>
+    ensures { OnOk result (string_bytes text.new ≡ string_bytes text.old ++ word.now) }
+{
+    text.push_str(word)
+}
+
 /// Adds a line, if it is so.
 fn push_if(text: &mut String, is_so: bool, line: &str) -> Result<(), AllocError>
     ensures { OnOk result (string_bytes text.new ≡ string_bytes text.old ++ line_if is_so line.now) }
@@ -150,4 +160,40 @@ pub(crate) fn push_reasons(text: &mut String, health: &Health) -> Result<(), All
         health.still,
         "status_old: the last round was made ten rounds ago\n",
     )
+}
+
+/// Adds a line that the life before this one ended so long ago by a broken assumption, for ten minutes.
+fn push_broke(text: &mut String, broke: Option<u64>) -> Result<(), AllocError>
+    ensures { OnOk result (string_bytes text.new ≡ string_bytes text.old ++ broke_text broke) }
+{
+    match broke {
+        Some(ago) if ago <= TOLD => {
+            let seconds = ago / SECOND;
+            write!(text, "last_life_broke {seconds} s ago: assumption_broken\n")
+        }
+        _ => Ok(()),
+    }
+}
+
+/// Adds that the machine is well, or a line for each reason for which it is not.
+fn push_judged(text: &mut String, health: &Health) -> Result<(), AllocError>
+    ensures { OnOk result (string_bytes text.new ≡ string_bytes text.old ++ judged_text health.now) }
+{
+    if health.is_well() {
+        push_word(text, "ok\n")
+    } else {
+        push_reasons(text, health)
+    }
+}
+
+/// Adds whether the machine is well, and then whether the life before was not.
+pub(crate) fn push_health(
+    text: &mut String,
+    health: &Health,
+    broke: Option<u64>,
+) -> Result<(), AllocError>
+    ensures { OnOk result (string_bytes text.new ≡ string_bytes text.old ++ told_text health.now broke) }
+{
+    push_judged(text, health)?;
+    push_broke(text, broke)
 }

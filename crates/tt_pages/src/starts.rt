@@ -3,7 +3,7 @@
 ghost use Rattle.std.specs.Prelude.{◌≡◌, ◌++◌, OnOk, option_map, string_bytes};
 ghost use Rattle.tt_pages.specs.Start.{age_text, drawing_text, state_text, start_text, wrong_text};
 
-use crate::healths::{Health, push_reasons};
+use crate::healths::{Health, push_reasons, push_word};
 use std::alloc::AllocError;
 
 /// A millisecond, in nanoseconds.
@@ -20,22 +20,25 @@ const HEAD: &str = "<!DOCTYPE html>
 <style>
 :root { color-scheme: light dark; --ink: #1c2128; --paper: #ffffff; --line: #d0d7de; --bad: #c4262e }
 @media (prefers-color-scheme: dark) { :root { --ink: #e6edf3; --paper: #11151a; --line: #30363d; --bad: #ff7b72 } }
-body { font: 15px sans-serif; color: var(--ink); background: var(--paper); max-width: 820px; margin: 0 auto; padding: 8px }
+body { font: 15px sans-serif; color: var(--ink); background: var(--paper); max-width: 1180px; margin: 0 auto; padding: 8px }
 h1 { font-size: 18px; margin: 8px 0 }
 p, pre { margin: 8px 0 }
 pre { font: 14px monospace; white-space: pre-wrap }
 .wrong, .signs, .suspect, .silent, .never { color: var(--bad) }
 body > svg { display: block; width: 100%; height: auto }
 table { border-collapse: collapse; width: 100%; font-variant-numeric: tabular-nums }
-th, td { text-align: right; padding: 3px 4px; border-top: 1px solid var(--line) }
+th, td { text-align: right; padding: 3px 2px; border-top: 1px solid var(--line); white-space: nowrap; font-size: 14px }
 th { font-weight: normal }
+table ~ p { clear: both }
+@media (min-width: 1000px) { body > svg { float: left; width: 62% } table { width: 36%; margin-left: 64% } }
 </style>
 </head>
 <body>
 ";
 
 /// What the page ends with.
-const END: &str = "<p>A bar is the span of a source: the time lies in it if the source is right. The band is the fused span. Ends: which ends of it a source holds. Suspect: its span misses the fused one. Silent: no answer for three rounds.</p>
+const END: &str =
+    "<p>A bar is the span of a source: the time lies in it if the source is right. The band is the fused span. Ends: which ends of it a source holds. Suspect: its span misses the fused one. Silent: no answer for three rounds.</p>
 </body>
 </html>
 ";
@@ -44,9 +47,9 @@ const END: &str = "<p>A bar is the span of a source: the time lies in it if the 
 fn push_wrong(text: &mut String, health: &Health) -> Result<(), AllocError>
     ensures { OnOk result (string_bytes text.new ≡ string_bytes text.old ++ wrong_text health.now) }
 {
-    text.push_str("<pre class=\"wrong\">")?;
+    push_word(text, "<pre class=\"wrong\">")?;
     push_reasons(text, health)?;
-    text.push_str("</pre>\n")
+    push_word(text, "</pre>\n")
 }
 
 /// Adds whether the machine is well, and why not.
@@ -54,7 +57,7 @@ fn push_state(text: &mut String, health: &Health) -> Result<(), AllocError>
     ensures { OnOk result (string_bytes text.new ≡ string_bytes text.old ++ state_text health.now) }
 {
     if health.is_well() {
-        text.push_str("<p>ok</p>\n")
+        push_word(text, "<p>ok</p>\n")
     } else {
         push_wrong(text, health)
     }
@@ -65,8 +68,8 @@ fn push_drawing(text: &mut String, drawing: &Option<String>) -> Result<(), Alloc
     ensures { OnOk result (string_bytes text.new ≡ string_bytes text.old ++ drawing_text (option_map string_bytes drawing.now)) }
 {
     match drawing {
-        Some(drawing) => text.push_str(drawing.as_str()),
-        None => text.push_str("<p>no status yet</p>\n"),
+        Some(drawing) => push_word(text, drawing.as_str()),
+        None => push_word(text, "<p>no status yet</p>\n"),
     }
 }
 
@@ -88,9 +91,9 @@ pub(crate) fn push_start(
 ) -> Result<(), AllocError>
     ensures { OnOk result (string_bytes text.new ≡ string_bytes text.old ++ start_text health.now age (option_map string_bytes drawing.now)) }
 {
-    text.push_str(HEAD)?;
+    push_word(text, HEAD)?;
     push_state(text, health)?;
     push_age(text, age)?;
     push_drawing(text, drawing)?;
-    text.push_str(END)
+    push_word(text, END)
 }

@@ -1,6 +1,6 @@
 //! The thread that answers requests over HTTP. It serves several connections by turns.
 
-use crate::clocks::clock_of;
+use crate::clocks::{clock_of, time_of};
 use crate::records::{PageLanes, Records};
 use crate::visitors::{Turn, Visitor, left_of};
 use mio::unix::SourceFd;
@@ -13,7 +13,7 @@ use std::time::{Clock as SystemClock, Duration};
 use std::{io, thread};
 use tt_pages::{Asked, Limits, Page, Report, Wanted, push_answer};
 use tt_status::{Status, push_status};
-use tt_top::{Form, Widths, push_drawing, read_view};
+use tt_top::{Form, Past, View, Widths, push_drawing, read_view};
 
 /// The most connections that are served at a time.
 const PLACES: usize = 8;
@@ -44,6 +44,15 @@ pub struct Pages {
     pub is_open: bool,
 }
 
+/// What the clocks show, in nanoseconds.
+#[derive(Clone, Copy)]
+struct Now {
+    /// The monotonic one.
+    clock: u64,
+    /// The time since 1970.
+    time: u64,
+}
+
 /// What was handed over last.
 #[derive(Drop)]
 struct Newest {
@@ -53,8 +62,12 @@ struct Newest {
     evidence: Option<String>,
     /// The widths of the last ten minutes.
     widths: Widths,
+    /// What was seen of the statuses that were drawn.
+    past: Past,
     /// The part of a page that shows the status, if it was drawn since that was handed over.
     drawing: Option<String>,
+    /// When the life before broke, in nanoseconds since 1970, 0 if it did not. None before the first status.
+    broke_at: Option<u64>,
 }
 
 impl Newest {
@@ -65,15 +78,16 @@ impl Newest {
             at: now,
             evidence: None,
             widths: Widths::new(now),
+            past: Past::new(now),
             drawing: None,
+            broke_at: None,
         }
     }
 
     /// Takes what was handed over meanwhile.
     fn take<R: Wait>(&mut self, rt: &R, lanes: &PageLanes) {
         if let Some(shown) = lanes.status.take_waiting(rt) {
-            self.widths
-                .see(shown.status.width.unwrap_or(0), shown.at);
+            self.widths.see(shown.status.width.unwrap_or(0), shown.at);
             self.status = Some(shown.status);
             self.at = shown.at;
             self.drawing = None;
@@ -83,28 +97,73 @@ impl Newest {
         }
     }
 
+    /// What the status shows, with the evidence.
+    fn view(&self, alloc: Global) -> Option<View> {
+        let mut told = String::new(alloc);
+        match &self.status {
+            Some(status) => push_status(&mut told, status).ok()?,
+            None => return None,
+        }
+        let evidence = match &self.evidence {
+            Some(text) => text.as_bytes(),
+            None => &[],
+        };
+        read_view(alloc, told.as_bytes(), evidence).ok()
+    }
+
+    /// Looks at the first status, once, for how the life before ended.
+    fn look_back(&mut self, alloc: Global) {
+        if self.broke_at.is_none() {
+            if let Some(view) = self.view(alloc) {
+                self.broke_at = Some(view.broke.at);
+            }
+        }
+    }
+
     /// Draws the status where that is asked for and not done yet, so once for each status at most.
-    fn draw(&mut self, alloc: Global, asked: Asked, limits: Limits) {
+    fn draw(&mut self, alloc: Global, asked: Asked, limits: Limits, now: Now) {
         if self.drawing.is_some() || !wants_drawing(asked) {
             return;
         }
-        let Some(status) = &self.status else {
-            return;
+        if let Some(view) = self.view(alloc) {
+            self.past.see(&view, now.clock);
+            self.drawing = self.drawing_of(alloc, &view, limits, now);
+        }
+    }
+
+    /// The part of a page that shows this. None if it is out of memory.
+    fn drawing_of(&self, alloc: Global, view: &View, limits: Limits, now: Now) -> Option<String> {
+        let form = Form {
+            columns: 80,
+            ascii: true,
+            colour: false,
+            silent_after: limits.fresh,
+            max_width: limits.max_width,
+            age: None,
+            time: now.time,
         };
-        let evidence = match &self.evidence {
-            Some(text) => text.as_str(),
-            None => "",
-        };
-        self.drawing = drawing_of(alloc, status, evidence, &self.widths, limits);
+        let widths = self.widths.list(alloc).ok()?;
+        let mut text = String::new(alloc);
+        push_drawing(alloc, &mut text, view, &form, widths.as_slice(), &self.past).ok()?;
+        Some(text)
+    }
+
+    /// How long ago the life before broke, in nanoseconds, if it did.
+    fn broke(&self, time: u64) -> Option<u64> {
+        match self.broke_at {
+            Some(at) if at > 0 => Some(time.saturating_sub(at)),
+            _ => None,
+        }
     }
 
     /// The answer to this, when the clock shows `now`. None if it is out of memory.
-    fn answer(&self, alloc: Global, asked: Asked, limits: Limits, now: u64) -> Option<String> {
+    fn answer(&self, alloc: Global, asked: Asked, limits: Limits, now: Now) -> Option<String> {
         let report = Report {
             status: &self.status,
-            age: now.saturating_sub(self.at),
+            age: now.clock.saturating_sub(self.at),
             evidence: &self.evidence,
             drawing: &self.drawing,
+            broke: self.broke(now.time),
             limits,
         };
         let mut text = String::new(alloc);
@@ -121,30 +180,6 @@ fn wants_drawing(asked: Asked) -> bool {
         asked,
         Asked::Wants(Wanted::Whole(Some(Page::Start)) | Wanted::Head(Some(Page::Start)))
     )
-}
-
-/// The part of a page that shows this status, with these widths before. None if it is out of memory.
-fn drawing_of(
-    alloc: Global,
-    status: &Status,
-    evidence: &str,
-    widths: &Widths,
-    limits: Limits,
-) -> Option<String> {
-    let form = Form {
-        columns: 80,
-        ascii: true,
-        colour: false,
-        silent_after: limits.fresh,
-        max_width: limits.max_width,
-    };
-    let mut told = String::new(alloc);
-    push_status(&mut told, status).ok()?;
-    let view = read_view(alloc, told.as_bytes(), evidence.as_bytes()).ok()?;
-    let widths = widths.list(alloc).ok()?;
-    let mut text = String::new(alloc);
-    push_drawing(alloc, &mut text, &view, &form, widths.as_slice()).ok()?;
-    Some(text)
 }
 
 /// The pages with the connections that are served, and what their thread waits with.
@@ -261,11 +296,11 @@ impl PageHost {
     }
 
     /// A turn of each connection, and the end of those that are over or have had their time when the clock shows `now`.
-    fn serve_all(&mut self, newest: &mut Newest, now: u64) {
+    fn serve_all(&mut self, newest: &mut Newest, now: Now) {
         for slot in self.visitors.iter_mut() {
             let goes_on = match slot {
                 Some(visitor) => {
-                    left_of(visitor.began, now) > 0
+                    left_of(visitor.began, now.clock) > 0
                         && serve(self.alloc, visitor, newest, self.pages.limits, now)
                 }
                 None => true,
@@ -283,11 +318,11 @@ fn serve(
     visitor: &mut Visitor,
     newest: &mut Newest,
     limits: Limits,
-    now: u64,
+    now: Now,
 ) -> bool {
     let turn = match visitor.turn() {
         Turn::Asks(asked) => {
-            newest.draw(alloc, asked, limits);
+            newest.draw(alloc, asked, limits, now);
             match newest.answer(alloc, asked, limits, now) {
                 Some(answer) => visitor.give(answer),
                 None => Turn::Over,
@@ -314,8 +349,12 @@ pub(crate) fn give_pages<R: Wait + SystemClock>(rt: &R, records: &Records, host:
     for _ in rt.forever() {
         host.wait(rt);
         newest.take(rt, &records.pages);
-        let now = clock_of(rt);
-        host.accept_some(now);
+        newest.look_back(host.alloc);
+        let now = Now {
+            clock: clock_of(rt),
+            time: time_of(rt),
+        };
+        host.accept_some(now.clock);
         host.serve_all(&mut newest, now);
     }
     unreachable!()

@@ -1,10 +1,19 @@
 -- How wide a picture is, and what makes it red.
-use Rattle.std.specs.Prelude.{ℕ, ◌-◌, ◌&&◌, nat_lt, min, max, Bool, true, false, if◌then◌else◌, Option, Some, None, List, [], ◌∷◌, codes}
+use Rattle.std.specs.Prelude.{ℕ, ◌-◌, ◌*◌, ◌/◌, ◌&&◌, nat_lt, min, max, Bool, true, false, if◌then◌else◌, Option, Some, None, List, [], ◌∷◌, codes}
 use Rattle.tt_top.specs.declared.forms.Form.{Form}
 
 -- how many columns the bars have: the columns of the picture, 64 to 300, without the 51 of the other parts of a line
 abbrev pub bar_columns : Form → ℕ
 bar_columns form = min (max form.columns 64) 300 - 51
+
+-- an age is above two of three such rounds, and above a second
+abbrev pub is_past : Option ℕ → ℕ → Bool
+is_past (Some age) three = nat_lt (max (three / 3 * 2) 1000000000) age
+is_past None three = false
+
+-- the status is older than two rounds
+abbrev pub is_old : Form → Bool
+is_old form = is_past form.age form.silent_after
 
 -- a width is above a limit, if both are known
 abbrev pub is_above : Option ℕ → Option ℕ → Bool

@@ -6,9 +6,23 @@ use Rattle.tt_top.specs.declared.bars.Scale.{Scale}
 use Rattle.tt_top.specs.declared.forms.Form.{Form}
 use Rattle.tt_top.specs.declared.pieces.Piece.TheVariants as piece
 use Rattle.tt_top.specs.declared.views.View.{View}
-use Rattle.tt_top.specs.Form.{bar_columns}
+use Rattle.tt_top.specs.Form.{bar_columns, is_old, red_word, plain_word}
 use Rattle.tt_top.specs.Piece.{join, blanks_text, length_text, piece_text}
 use Rattle.tt_top.specs.Spark.{least_of, most_of, level_of, level_word}
+
+-- the line of an age, with a mark if it is old
+abbrev pub age_line : Form → Bool → ℕ → List ℕ
+age_line form old age = join (
+    red_word form old ∷ (if old then codes "! status " else codes "status ") ∷ length_text age ∷ codes " old" ∷ plain_word form old ∷ codes "\n" ∷ [])
+
+-- the same, if the age is known
+abbrev pub age_if : Form → Option ℕ → List ℕ
+age_if form None = []
+age_if form (Some age) = age_line form (is_old form) age
+
+-- how old the status is
+abbrev pub age_text : Form → List ℕ
+age_text form = age_if form form.age
 
 -- how many sources may be wrong, if that is known, and the end of the line
 abbrev pub faulty_text : Option ℕ → List ℕ

@@ -13,6 +13,10 @@ use Rattle.tt_top.specs.Spark.{most_of}
 abbrev pub last_of : List ℕ → List ℕ
 last_of widths = drop (length widths - 200) widths
 
+-- the greatest of them
+abbrev pub greatest_of : List ℕ → ℕ
+greatest_of widths = most_of (last_of widths)
+
 -- how high a width stands where another is the greatest, which has 150 units
 abbrev pub height_over : ℕ → ℕ → ℕ
 height_over width most = min (width * 150 / max most 1) 150
@@ -41,14 +45,14 @@ steps_path base widths = path_of base (last_of widths)
 unfoldable pub base_text : Form → View → ℕ → List ℕ
 base_text form view base = join (
     codes "<path class=\"axis\" d=\"M150 " ∷ decimal base ∷ codes "h800\"/>\n<text x=\"150\" y=\"" ∷ decimal (base + 34)
-    ∷ codes "\">10 min ago</text>\n<text class=\"end\" x=\"950\" y=\"" ∷ decimal (base + 34) ∷ codes "\">now</text>\n<text x=\"8\" y=\"" ∷ decimal base
-    ∷ codes "\">width</text>\n<text class=\"now" ∷ wide_word form view.width ∷ codes "\" x=\"8\" y=\"" ∷ decimal (base + 34) ∷ codes "\">" ∷ piece_text (piece.Length view.width)
+    ∷ codes "\">10 min ago</text>\n<text class=\"end\" x=\"950\" y=\"" ∷ decimal (base + 34) ∷ codes "\">now</text>\n<text x=\"8\" y=\"" ∷ decimal (base - 34)
+    ∷ codes "\">width</text>\n<text class=\"now" ∷ wide_word form view.width ∷ codes "\" x=\"8\" y=\"" ∷ decimal base ∷ codes "\">" ∷ piece_text (piece.Length view.width)
     ∷ codes "</text>\n" ∷ [])
 
 -- the greatest width
-abbrev pub top_text : ℕ → List ℕ → List ℕ
-top_text base widths = join (
-    codes "<text class=\"end\" x=\"950\" y=\"" ∷ decimal (base - 158) ∷ codes "\">at most " ∷ piece_text (piece.Length (Some (most_of (last_of widths)))) ∷ codes "</text>\n" ∷ [])
+abbrev pub top_line : ℕ → ℕ → List ℕ
+top_line base greatest = join (
+    codes "<text class=\"end\" x=\"950\" y=\"" ∷ decimal (base - 158) ∷ codes "\">at most " ∷ piece_text (piece.Length (Some greatest)) ∷ codes "</text>\n" ∷ [])
 
 -- the line of a limit
 abbrev pub limit_line : ℕ → ℕ → ℕ → List ℕ
@@ -61,8 +65,8 @@ limit_with (Some limit) base most = if nat_lt limit most then limit_line base li
 
 -- the line of the greatest width that readings may have, where some width is above it
 abbrev pub limit_text : Form → ℕ → List ℕ → List ℕ
-limit_text form base widths = limit_with form.max_width base (most_of (last_of widths))
+limit_text form base widths = limit_with form.max_width base (greatest_of widths)
 
 -- all of it
 abbrev pub history_text : Form → View → ℕ → List ℕ → List ℕ
-history_text form view base widths = steps_path base widths ++ (base_text form view base ++ (limit_text form base widths ++ top_text base widths))
+history_text form view base widths = steps_path base widths ++ (base_text form view base ++ (limit_text form base widths ++ top_line base (greatest_of widths)))

@@ -7,6 +7,7 @@ pub mod Ruler
 pub mod Chart
 pub mod History
 pub mod Head
+pub mod Rise
 pub mod Sign
 pub mod Picture
 pub mod Fault
@@ -15,3 +16,4 @@ pub mod View
 pub mod Svg
 pub mod Drawing
 pub mod Width
+pub mod Line

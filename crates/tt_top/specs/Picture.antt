@@ -1,15 +1,16 @@
 -- The picture of a view, as text.
-use Rattle.std.specs.Prelude.{ℕ, Option, Some, None, List, ◌++◌}
+use Rattle.std.specs.Prelude.{ℕ, Option, Some, None, List, ◌++◌, codes}
 use Rattle.std.specs.List.{flat_map}
 use Rattle.tt_span.specs.Interval.{Interval}
 use Rattle.tt_top.specs.declared.bars.Scale.{Scale}
 use Rattle.tt_top.specs.declared.forms.Form.{Form}
+use Rattle.tt_top.specs.declared.rises.Past.{Past}
 use Rattle.tt_top.specs.declared.views.SourceView.{SourceView}
 use Rattle.tt_top.specs.declared.views.View.{View}
 use Rattle.tt_top.specs.Form.{bar_columns}
 use Rattle.tt_top.specs.Bar.{reach_of, scale_over}
 use Rattle.tt_top.specs.Row.{row_text, fused_text}
-use Rattle.tt_top.specs.Head.{head_text, scale_text, no_scale_text, width_text, commits_text}
+use Rattle.tt_top.specs.Head.{age_text, head_text, scale_text, no_scale_text, width_text, commits_text}
 use Rattle.tt_top.specs.Sign.{signs_text}
 
 -- a scale for bars without spans
@@ -37,6 +38,11 @@ bars_of form (Some fused) sources = scaled_text form fused sources
 abbrev pub bars_text : Form → View → List ℕ
 bars_text form view = bars_of form view.fused view.sources.items
 
--- the picture of a view, with the widths of the looks before
-abbrev pub view_text : Form → View → List ℕ → List ℕ
-view_text form view widths = head_text view ++ (bars_text form view ++ (width_text form view widths ++ (commits_text view ++ signs_text form view)))
+-- what the signs of the picture are
+abbrev pub legend : List ℕ
+legend = codes "= source  x suspect  # fused  < > beyond  ? none  [ ] ends held\n"
+
+-- the picture of a view, with the widths of the looks before, and what was seen at them
+abbrev pub view_text : Form → View → List ℕ → Past → List ℕ
+view_text form view widths past =
+    age_text form ++ (head_text view ++ (bars_text form view ++ (width_text form view widths ++ (commits_text view ++ (signs_text form past view ++ legend)))))

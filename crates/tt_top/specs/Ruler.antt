@@ -32,8 +32,8 @@ abbrev pub left_of : Ruler → Interval → ℕ
 left_of ruler span = min (place_of ruler span.lo) 796
 
 -- how many units a span has: at least four
-abbrev pub length_of : Ruler → Interval → ℕ
-length_of ruler span = max (min (place_of ruler span.hi + 1) 800 - left_of ruler span) 4
+abbrev pub extent_of : Ruler → Interval → ℕ
+extent_of ruler span = max (min (place_of ruler span.hi + 1) 800 - left_of ruler span) 4
 
 -- the first time of a unit
 abbrev pub time_at : Ruler → ℕ → ℕ

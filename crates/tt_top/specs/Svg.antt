@@ -9,7 +9,7 @@ use Rattle.tt_top.specs.Piece.{join}
 
 -- how the parts look
 abbrev pub style : List ℕ
-style = codes "<style>\nsvg { --ink: #1c2128; --paper: #ffffff; --line: #6e7781; --source: #2f6fb3; --bad: #c4262e; --fused: #1f7a3a; --band: #d8efdc; background: var(--paper) }\n@media (prefers-color-scheme: dark) { svg { --ink: #e6edf3; --paper: #11151a; --line: #8b949e; --source: #6cb0f5; --bad: #ff7b72; --fused: #56d36f; --band: #17361f } }\nsvg text { font: 28px sans-serif; fill: var(--ink) }\nsvg .tick { text-anchor: middle; font-size: 26px }\nsvg .end { text-anchor: end }\nsvg .axis { stroke: var(--line); stroke-width: 2; fill: none }\nsvg .source rect { fill: var(--source) }\nsvg .suspect rect, svg .silent rect { fill: var(--bad) }\nsvg .suspect text, svg .silent text, svg .never text, svg .wide { fill: var(--bad) }\nsvg .fused rect { fill: var(--fused) }\nsvg .band { fill: var(--band) }\nsvg .width { stroke: var(--source); stroke-width: 4; fill: none }\nsvg .limit { stroke: var(--bad); stroke-width: 3; stroke-dasharray: 12 8; fill: none }\n</style>\n"
+style = codes "<style>\nsvg { --ink: #1c2128; --paper: #ffffff; --line: #6e7781; --source: #2f6fb3; --bad: #c4262e; --fused: #1f7a3a; --band: #d8efdc; background: var(--paper) }\n@media (prefers-color-scheme: dark) { svg { --ink: #e6edf3; --paper: #11151a; --line: #8b949e; --source: #6cb0f5; --bad: #ff7b72; --fused: #56d36f; --band: #17361f } }\nsvg text { font: 28px sans-serif; fill: var(--ink) }\nsvg .tick { text-anchor: middle }\nsvg .tick, svg .now { font-size: 26px }\nsvg .end { text-anchor: end }\nsvg .axis { stroke: var(--line); stroke-width: 2; fill: none }\nsvg .source rect { fill: var(--source) }\nsvg .suspect rect, svg .silent rect { fill: var(--bad) }\nsvg .suspect text, svg .silent text, svg .never text, svg .wide { fill: var(--bad) }\nsvg .fused rect { fill: var(--fused) }\nsvg .band { fill: var(--band) }\nsvg .width { stroke: var(--source); stroke-width: 4; fill: none }\nsvg .limit { stroke: var(--bad); stroke-width: 3; stroke-dasharray: 12 8; fill: none }\n</style>\n"
 
 -- where the widths stand below so many sources
 abbrev pub base_of : ℕ → ℕ

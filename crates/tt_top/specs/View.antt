@@ -7,6 +7,7 @@ use Rattle.tt_span.specs.Time.{max_time}
 use Rattle.tt_span.specs.Interval.{Interval}
 use Rattle.tt_top.specs.declared.faults.ViewFault.{ViewFault}
 use Rattle.tt_top.specs.declared.faults.ViewFault.TheVariants.{NotStatus, NotEvidence}
+use Rattle.tt_top.specs.declared.views.Broke.{Broke}
 use Rattle.tt_top.specs.declared.views.CommitCounts.{CommitCounts}
 use Rattle.tt_top.specs.declared.views.Life.{Life}
 use Rattle.tt_top.specs.declared.views.SignCounts.{SignCounts}
@@ -105,13 +106,20 @@ signs_of status machine = record {
   left_out = count_of status machine (codes "truetime_records_left_out_total") [];
 }
 
+-- how the life before ended
+unfoldable pub broke_of : List ℕ → ℕ → Broke
+broke_of status machine = record {
+  at = count_of status machine (codes "truetime_last_break_timestamp_seconds") [];
+  by_assumption = count_of status machine (codes "truetime_last_break_info") (codes ",event=\"assumption_broken\"") == 1;
+}
+
 -- the fused span, of which the evidence has a line
 unfoldable pub fused_of : List ℕ → Option Interval
 fused_of evidence = span_if (nth_behind (codes "claim ") 0 evidence)
 
 -- a view of these parts
-abbrev pub view_of : Life → Option ℕ → List SourceView → Option Interval → Option ℕ → CommitCounts → Bool → SignCounts → View
-view_of life faulty sources fused width commits sharing signs = record {
+abbrev pub view_of : Life → Option ℕ → List SourceView → Option Interval → Option ℕ → CommitCounts → Bool → SignCounts → Broke → View
+view_of life faulty sources fused width commits sharing signs broke = record {
   life = life;
   faulty = faulty;
   sources = record { items = sources };
@@ -120,6 +128,7 @@ view_of life faulty sources fused width commits sharing signs = record {
   commits = commits;
   sharing = sharing;
   signs = signs;
+  broke = broke;
 }
 
 -- all that is shown: at most 16 sources
@@ -133,6 +142,7 @@ view_with status evidence machine =
     (commits_of status machine)
     (count_of status machine (codes "truetime_sharing") [] == 1)
     (signs_of status machine)
+    (broke_of status machine)
 
 -- the view of a machine, if the status names one
 abbrev pub result_at : List ℕ → List ℕ → Option ℕ → Result View ViewFault

@@ -1,11 +1,11 @@
 //! The spans of a view on an axis, as parts of an SVG document.
 
-ghost use Rattle.std.specs.Prelude.{◌≡◌, ◌++◌, ◌≤◌, OnOk, string_bytes};
+ghost use Rattle.std.specs.Prelude.{◌≡◌, ◌++◌, ◌≤◌, OnOk, length, string_bytes};
 ghost use Rattle.std.specs.List.{flat_map};
-ghost use Rattle.tt_top.specs.Chart.{row_of, bar_rect, label_text, source_chart, fused_label, fused_chart, tick_text, axis_text, known_chart, unknown_chart, spans_chart};
+ghost use Rattle.tt_top.specs.Chart.{row_of, bar_rect, span_rect, rect_if, label_text, source_chart, fused_label, fused_chart, tick_text, axis_line, axis_text, chart_on, known_chart, no_fused, unknown_chart, spans_chart};
 
 use crate::forms::Form;
-use crate::pieces::{Piece, push_pieces};
+use crate::pieces::{Piece, push_pieces, push_word};
 use crate::rows::apart;
 use crate::rulers::Ruler;
 use crate::views::SourceView;
@@ -23,28 +23,45 @@ pub(crate) fn row(number: u64) -> u64
     40 * number.min(MOST_ROWS)
 }
 
+/// Writes a bar that begins at this unit of the axis and has this length, in a row.
+fn push_bar(text: &mut String, left: u64, length: u64, number: u64) -> Result<(), AllocError>
+    requires { left ≤ 796 }
+    ensures { OnOk result (string_bytes text.new ≡ string_bytes text.old ++ bar_rect left length number) }
+{
+    push_pieces(
+        text,
+        &[
+            Piece::Word("<rect x=\""),
+            Piece::Number(150 + left),
+            Piece::Word("\" y=\""),
+            Piece::Number(row(number) + 14),
+            Piece::Word("\" width=\""),
+            Piece::Number(length),
+            Piece::Word("\" height=\"24\"/>"),
+        ],
+    )
+}
+
+/// Writes the bar of a span in a row.
+fn push_rect(text: &mut String, ruler: Ruler, span: &Span, number: u64) -> Result<(), AllocError>
+    ensures { OnOk result (string_bytes text.new ≡ string_bytes text.old ++ span_rect ruler span.now number) }
+{
+    let left = ruler.left(span);
+    let extent = ruler.extent(span);
+    push_bar(text, left, extent, number)
+}
+
 /// Writes the bar of a span in a row, if there is a span.
-fn push_rect(
+fn push_rect_if(
     text: &mut String,
     ruler: Ruler,
     span: &Option<Span>,
     number: u64,
 ) -> Result<(), AllocError>
-    ensures { OnOk result (string_bytes text.new ≡ string_bytes text.old ++ bar_rect ruler span.now number) }
+    ensures { OnOk result (string_bytes text.new ≡ string_bytes text.old ++ rect_if ruler span.now number) }
 {
     match span {
-        Some(span) => push_pieces(
-            text,
-            &[
-                Piece::Word("<rect x=\""),
-                Piece::Number(150 + ruler.left(span)),
-                Piece::Word("\" y=\""),
-                Piece::Number(row(number) + 14),
-                Piece::Word("\" width=\""),
-                Piece::Number(ruler.length(span)),
-                Piece::Word("\" height=\"24\"/>"),
-            ],
-        ),
+        Some(span) => push_rect(text, ruler, span, number),
         None => Ok(()),
     }
 }
@@ -93,8 +110,8 @@ fn push_source(
     ensures { OnOk result (string_bytes text.new ≡ string_bytes text.old ++ source_chart form.now ruler fused.now source.now) }
 {
     push_label(text, form, fused, source, source.number)?;
-    push_rect(text, ruler, &source.span, source.number)?;
-    text.push_str("</g>\n")
+    push_rect_if(text, ruler, &source.span, source.number)?;
+    push_word(text, "</g>\n")
 }
 
 /// Writes the rows of sources.
@@ -113,23 +130,25 @@ fn push_sources(
     Ok(())
 }
 
-/// Writes the band of the fused span behind all rows, and what stands in front of its bar.
+/// Writes the band of the fused span behind all rows, and what stands in front of its bar, which begins at this unit and has
+/// this length.
 fn push_fused_label(
     text: &mut String,
-    ruler: Ruler,
-    fused: &Span,
+    left: u64,
+    length: u64,
+    width: u64,
     number: u64,
 ) -> Result<(), AllocError>
-    ensures { OnOk result (string_bytes text.new ≡ string_bytes text.old ++ fused_label ruler fused.now number) }
+    requires { left ≤ 796 }
+    ensures { OnOk result (string_bytes text.new ≡ string_bytes text.old ++ fused_label left length width number) }
 {
-    let width = fused.hi() - fused.lo();
     push_pieces(
         text,
         &[
             Piece::Word("<rect class=\"band\" x=\""),
-            Piece::Number(150 + ruler.left(fused)),
+            Piece::Number(150 + left),
             Piece::Word("\" y=\"0\" width=\""),
-            Piece::Number(ruler.length(fused)),
+            Piece::Number(length),
             Piece::Word("\" height=\""),
             Piece::Number(row(number) + 40),
             Piece::Word("\"/>\n<g class=\"fused\"><title>fused: "),
@@ -142,17 +161,15 @@ fn push_fused_label(
 }
 
 /// Writes the row of the fused span, which is the one with this number.
-fn push_fused(
-    text: &mut String,
-    ruler: Ruler,
-    fused: &Span,
-    number: u64,
-) -> Result<(), AllocError>
+fn push_fused(text: &mut String, ruler: Ruler, fused: &Span, number: u64) -> Result<(), AllocError>
     ensures { OnOk result (string_bytes text.new ≡ string_bytes text.old ++ fused_chart ruler fused.now number) }
 {
-    push_fused_label(text, ruler, fused, number)?;
-    push_rect(text, ruler, &Some(*fused), number)?;
-    text.push_str("</g>\n")
+    let left = ruler.left(fused);
+    let extent = ruler.extent(fused);
+    let width = fused.hi() - fused.lo();
+    push_fused_label(text, left, extent, width, number)?;
+    push_rect(text, ruler, fused, number)?;
+    push_word(text, "</g>\n")
 }
 
 /// Writes what a unit of the axis shows: how far its time lies from the middle of the fused span.
@@ -172,7 +189,7 @@ fn push_tick(
             Piece::Word("<text class=\"tick\" x=\""),
             Piece::Number(150 + unit),
             Piece::Word("\" y=\""),
-            Piece::Number(row(number) + 50),
+            Piece::Number(row(number) + 90),
             Piece::Word("\">"),
             Piece::Offset(Some(apart(ruler.time(unit), fused))),
             Piece::Word("</text>\n"),
@@ -180,30 +197,55 @@ fn push_tick(
     )
 }
 
-/// Writes the axis behind so many rows.
-fn push_axis(
-    text: &mut String,
-    ruler: Ruler,
-    fused: &Span,
-    number: u64,
-) -> Result<(), AllocError>
-    ensures { OnOk result (string_bytes text.new ≡ string_bytes text.old ++ axis_text ruler fused.now number) }
+/// Writes the line of the axis behind so many rows and that of the fused span, with four marks.
+fn push_line(text: &mut String, number: u64) -> Result<(), AllocError>
+    ensures { OnOk result (string_bytes text.new ≡ string_bytes text.old ++ axis_line number) }
 {
     push_pieces(
         text,
         &[
             Piece::Word("<path class=\"axis\" d=\"M150 "),
-            Piece::Number(row(number) + 8),
+            Piece::Number(row(number) + 48),
             Piece::Word("h800m-700 0v10m200-10v10m200-10v10m200-10v10\"/>\n"),
         ],
-    )?;
+    )
+}
+
+/// Writes the axis behind so many rows and that of the fused span.
+fn push_axis(text: &mut String, ruler: Ruler, fused: &Span, number: u64) -> Result<(), AllocError>
+    ensures { OnOk result (string_bytes text.new ≡ string_bytes text.old ++ axis_text ruler fused.now number) }
+{
+    push_line(text, number)?;
     push_tick(text, ruler, fused, 100, number)?;
     push_tick(text, ruler, fused, 300, number)?;
     push_tick(text, ruler, fused, 500, number)?;
     push_tick(text, ruler, fused, 700, number)
 }
 
+/// How many sources there are.
+pub(crate) fn count(sources: &[SourceView]) -> u64
+    ensures value { result ≡ length sources.now }
+{
+    sources.len() as u64
+}
+
 /// Writes the band and the row of the fused span, the rows of sources, and the axis.
+fn push_chart(
+    text: &mut String,
+    form: &Form,
+    ruler: Ruler,
+    fused: &Span,
+    sources: &[SourceView],
+) -> Result<(), AllocError>
+    ensures { OnOk result (string_bytes text.new ≡ string_bytes text.old ++ chart_on ruler form.now fused.now sources.now) }
+{
+    let number = count(sources);
+    push_fused(text, ruler, fused, number)?;
+    push_sources(text, form, ruler, &Some(*fused), sources)?;
+    push_axis(text, ruler, fused, number)
+}
+
+/// The same on the axis for them.
 fn push_known(
     text: &mut String,
     form: &Form,
@@ -212,12 +254,22 @@ fn push_known(
 ) -> Result<(), AllocError>
     ensures { OnOk result (string_bytes text.new ≡ string_bytes text.old ++ known_chart form.now fused.now sources.now) }
 {
-    let known = Some(*fused);
-    let ruler = Ruler::of(&known, sources);
-    let count = sources.len() as u64;
-    push_fused(text, ruler, fused, count)?;
-    push_sources(text, form, ruler, &known, sources)?;
-    push_axis(text, ruler, fused, count.saturating_add(1))
+    let ruler = Ruler::of(&Some(*fused), sources);
+    push_chart(text, form, ruler, fused, sources)
+}
+
+/// Writes that there is no evidence, in place of the fused span.
+fn push_no_fused(text: &mut String, number: u64) -> Result<(), AllocError>
+    ensures { OnOk result (string_bytes text.new ≡ string_bytes text.old ++ no_fused number) }
+{
+    push_pieces(
+        text,
+        &[
+            Piece::Word("<text x=\"8\" y=\""),
+            Piece::Number(row(number) + 34),
+            Piece::Word("\">no evidence yet</text>\n"),
+        ],
+    )
 }
 
 /// Writes the rows of sources without bars, and that there is no evidence.
@@ -225,15 +277,9 @@ fn push_unknown(text: &mut String, form: &Form, sources: &[SourceView]) -> Resul
     ensures { OnOk result (string_bytes text.new ≡ string_bytes text.old ++ unknown_chart form.now sources.now) }
 {
     let ruler = Ruler { start: 0, step: 1 };
+    let number = count(sources);
     push_sources(text, form, ruler, &None, sources)?;
-    push_pieces(
-        text,
-        &[
-            Piece::Word("<text x=\"8\" y=\""),
-            Piece::Number(row(sources.len() as u64) + 34),
-            Piece::Word("\">no evidence yet</text>\n"),
-        ],
-    )
+    push_no_fused(text, number)
 }
 
 /// Writes the rows of sources, that of the fused span behind the last of them, and the axis. Without a fused span there are

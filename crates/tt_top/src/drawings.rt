@@ -1,13 +1,14 @@
 //! The picture of a view, as a part of a page of HTML.
 
-ghost use Rattle.std.specs.Prelude.{◌≡◌, ◌++◌, OnOk, string_bytes};
+ghost use Rattle.std.specs.Prelude.{◌≡◌, ◌++◌, IfOk, OnOk, string_bytes};
 ghost use Rattle.std.specs.List.{flat_map};
-ghost use Rattle.tt_top.specs.Drawing.{escaped, title_text, cells_text, table_text, noted_text, drawing_text};
+ghost use Rattle.tt_top.specs.Drawing.{escaped, title_text, first_cells, last_cells, cells_text, table_text, framed_text, noted_text, drawing_text};
 ghost use Rattle.tt_top.specs.Sign.{signs_text};
 
 use crate::forms::Form;
 use crate::heads::push_head;
-use crate::pieces::{Piece, push_pieces};
+use crate::pieces::{Piece, push_pieces, push_word};
+use crate::rises::Past;
 use crate::signs::push_all_signs;
 use crate::svgs::push_svg;
 use crate::views::{SourceView, View};
@@ -39,14 +40,14 @@ fn push_byte(text: &mut String, byte: u8) -> Result<(), AllocError>
     }
 }
 
-/// Writes the line of a source in a table.
-fn push_cells(
+/// Writes the number of a source and its offset.
+fn push_first_cells(
     text: &mut String,
     form: &Form,
     fused: &Option<Span>,
     source: &SourceView,
 ) -> Result<(), AllocError>
-    ensures { OnOk result (string_bytes text.new ≡ string_bytes text.old ++ cells_text form.now fused.now source.now) }
+    ensures { OnOk result (string_bytes text.new ≡ string_bytes text.old ++ first_cells form.now fused.now source.now) }
 {
     push_pieces(
         text,
@@ -58,6 +59,17 @@ fn push_cells(
             Piece::Word("</td><td>"),
             Piece::Offset(source.offset(fused)),
             Piece::Word("</td><td>"),
+        ],
+    )
+}
+
+/// Writes the round trip of a source, its age, the ends that it holds, and what is wrong with it.
+fn push_last_cells(text: &mut String, form: &Form, source: &SourceView) -> Result<(), AllocError>
+    ensures { OnOk result (string_bytes text.new ≡ string_bytes text.old ++ last_cells form.now source.now) }
+{
+    push_pieces(
+        text,
+        &[
             Piece::Length(source.round_trip),
             Piece::Word("</td><td>"),
             Piece::Length(source.age),
@@ -67,6 +79,19 @@ fn push_cells(
             Piece::Word("</td></tr>\n"),
         ],
     )
+}
+
+/// Writes the line of a source in a table.
+fn push_cells(
+    text: &mut String,
+    form: &Form,
+    fused: &Option<Span>,
+    source: &SourceView,
+) -> Result<(), AllocError>
+    ensures { OnOk result (string_bytes text.new ≡ string_bytes text.old ++ cells_text form.now fused.now source.now) }
+{
+    push_first_cells(text, form, fused, source)?;
+    push_last_cells(text, form, source)
 }
 
 /// Writes the lines of sources in a table.
@@ -93,20 +118,39 @@ fn push_table(
 ) -> Result<(), AllocError>
     ensures { OnOk result (string_bytes text.new ≡ string_bytes text.old ++ table_text form.now fused.now sources.now) }
 {
-    text.push_str(
+    push_word(
+        text,
         "<table>\n<tr><th>source</th><th>offset</th><th>round trip</th><th>age</th><th>ends</th></tr>\n",
     )?;
     push_rows(text, form, fused, sources)?;
-    text.push_str("</table>\n")
+    push_word(text, "</table>\n")
 }
 
 /// Writes the line of a machine's life, as a title.
 fn push_title(text: &mut String, view: &View) -> Result<(), AllocError>
     ensures { OnOk result (string_bytes text.new ≡ string_bytes text.old ++ title_text view.now) }
 {
-    text.push_str("<h1>")?;
+    push_word(text, "<h1>")?;
     push_head(text, view)?;
-    text.push_str("</h1>\n")
+    push_word(text, "</h1>\n")
+}
+
+/// What an operator may have to act on, as text.
+fn signs_in(alloc: Global, form: &Form, past: &Past, view: &View) -> Result<String, AllocError>
+    ensures { IfOk result (λ text. string_bytes text ≡ signs_text form.now past.now view.now) }
+{
+    let mut signs = String::new(alloc);
+    push_all_signs(&mut signs, form, past, view)?;
+    Ok(signs)
+}
+
+/// Writes a text as a part of a page.
+fn push_framed(text: &mut String, bytes: &[u8]) -> Result<(), AllocError>
+    ensures { OnOk result (string_bytes text.new ≡ string_bytes text.old ++ framed_text bytes.now) }
+{
+    push_word(text, "<pre class=\"signs\">")?;
+    push_escaped(text, bytes)?;
+    push_word(text, "</pre>\n")
 }
 
 /// Writes what an operator may have to act on.
@@ -114,15 +158,13 @@ fn push_noted(
     alloc: Global,
     text: &mut String,
     form: &Form,
+    past: &Past,
     view: &View,
 ) -> Result<(), AllocError>
-    ensures { OnOk result (string_bytes text.new ≡ string_bytes text.old ++ noted_text form.now view.now) }
+    ensures { OnOk result (string_bytes text.new ≡ string_bytes text.old ++ noted_text form.now past.now view.now) }
 {
-    let mut signs = String::new(alloc);
-    push_all_signs(&mut signs, form, view)?;
-    text.push_str("<pre class=\"signs\">")?;
-    push_escaped(text, signs.as_bytes())?;
-    text.push_str("</pre>\n")
+    let signs = signs_in(alloc, form, past, view)?;
+    push_framed(text, signs.as_bytes())
 }
 
 /// Writes the picture of a view at the end of the text, as a part of a page of HTML: the line of the machine's life as its
@@ -136,11 +178,12 @@ pub fn push_drawing(
     view: &View,
     form: &Form,
     widths: &[u64],
+    past: &Past,
 ) -> Result<(), AllocError>
-    ensures written { OnOk result (string_bytes text.new ≡ string_bytes text.old ++ drawing_text form.now view.now widths.now) }
+    ensures written { OnOk result (string_bytes text.new ≡ string_bytes text.old ++ drawing_text form.now view.now widths.now past.now) }
 {
     push_title(text, view)?;
-    push_noted(alloc, text, form, view)?;
+    push_noted(alloc, text, form, past, view)?;
     push_svg(text, view, form, widths)?;
     push_table(text, form, &view.fused, view.sources.as_slice())
 }

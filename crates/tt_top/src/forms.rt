@@ -1,13 +1,16 @@
 //! How a view is drawn.
 
 ghost use Rattle.std.specs.Prelude.{◌≡◌, ◌≤◌, codes};
-ghost use Rattle.tt_top.specs.Form.{bar_columns, is_wide, wide_word, red_word, plain_word};
+ghost use Rattle.tt_top.specs.Form.{bar_columns, is_old, is_wide, wide_word, red_word, plain_word};
 
 /// The least number of columns that a picture has.
 pub const MIN_COLUMNS: u64 = 64;
 
 /// The greatest number of columns that a picture has.
 pub const MAX_COLUMNS: u64 = 300;
+
+/// A second, in nanoseconds.
+const SECOND: u64 = 1_000_000_000;
 
 /// How a view is drawn.
 #[derive(Clone, Copy)]
@@ -23,6 +26,10 @@ pub struct Form {
     pub silent_after: u64,
     /// The widest reading that clients are given, in nanoseconds, if there is a limit and it is known.
     pub max_width: Option<u64>,
+    /// How old the status is, in nanoseconds, if that is known.
+    pub age: Option<u64>,
+    /// The time, in nanoseconds since 1970.
+    pub time: u64,
 }
 
 impl Form {
@@ -33,6 +40,16 @@ impl Form {
         ensures most { result ≤ 249 }
     {
         self.columns.max(MIN_COLUMNS).min(MAX_COLUMNS) - 51
+    }
+
+    /// Whether the status is older than two rounds, and than a second.
+    pub(crate) fn is_old(&self) -> bool
+        ensures { result ≡ is_old self.now }
+    {
+        match self.age {
+            Some(age) => age > (self.silent_after / 3 * 2).max(SECOND),
+            None => false,
+        }
     }
 
     /// Whether readings of this width, if there are any, are wider than the limit, if there is one.

@@ -2,7 +2,7 @@
 
 ghost use Rattle.std.specs.Prelude.{◌≡◌, ◌++◌, ◌≤◌, OnOk, string_bytes};
 ghost use Rattle.tt_top.specs.Form.{bar_columns};
-ghost use Rattle.tt_top.specs.Head.{head_text, faulty_text, scale_text, no_scale_text, shown_of, range_text, levels_text, width_text, mean_of, sharing_word, commits_text};
+ghost use Rattle.tt_top.specs.Head.{age_text, head_text, faulty_text, scale_text, no_scale_text, shown_of, range_text, levels_text, width_text, mean_of, sharing_word, commits_text};
 
 use crate::bars::Scale;
 use crate::forms::Form;
@@ -10,6 +10,30 @@ use crate::pieces::{Piece, push_pieces};
 use crate::sparks::{least, most, push_levels};
 use crate::views::View;
 use std::alloc::AllocError;
+
+/// Writes how old the status is at the end of the text, if that is known, with a mark if it is older than two rounds.
+pub(crate) fn push_age(text: &mut String, form: &Form) -> Result<(), AllocError>
+    ensures { OnOk result (string_bytes text.new ≡ string_bytes text.old ++ age_text form.now) }
+{
+    match form.age {
+        Some(age) => push_pieces(
+            text,
+            &[
+                Piece::Word(form.red(form.is_old())),
+                Piece::Word(if form.is_old() {
+                    "! status "
+                } else {
+                    "status "
+                }),
+                Piece::Length(Some(age)),
+                Piece::Word(" old"),
+                Piece::Word(form.plain(form.is_old())),
+                Piece::Word("\n"),
+            ],
+        ),
+        None => Ok(()),
+    }
+}
 
 /// Writes the line of a machine's life at the end of the text.
 pub(crate) fn push_head(text: &mut String, view: &View) -> Result<(), AllocError>

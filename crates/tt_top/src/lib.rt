@@ -9,7 +9,7 @@
 //! - `reading`: [`read_view`], a view from the texts of the status and of the evidence. `fields`: numbers in these texts. `faults`: why
 //!   there is no view.
 //! - `widths`: [`Widths`], those of the last ten minutes.
-//! - `forms`: [`Form`], how it is drawn. `heads`, `rows`, `signs`: its lines. `bars`, `sparks`, `pieces`: what a line is made of.
+//! - `forms`: [`Form`], how it is drawn. `heads`, `rows`, `signs`: its lines. `rises`: [`Past`], when a count rose last. `lines`: [`lines_of`]. `bars`, `sparks`, `pieces`: what a line is made of.
 #![tactic(auto)]
 
 mod bars;
@@ -20,9 +20,11 @@ mod fields;
 mod forms;
 mod heads;
 mod histories;
+mod lines;
 mod pictures;
 mod pieces;
 mod reading;
+mod rises;
 mod rows;
 mod rulers;
 mod signs;
@@ -35,8 +37,10 @@ pub use drawings::push_drawing;
 pub use faults::ViewFault;
 pub use forms::{Form, MAX_COLUMNS, MIN_COLUMNS};
 pub use histories::STEPS;
+pub use lines::lines_of;
 pub use pictures::push_view;
 pub use reading::read_view;
+pub use rises::Past;
 pub use svgs::push_svg;
-pub use views::{CommitCounts, Life, SignCounts, SourceView, View};
+pub use views::{Broke, CommitCounts, Life, SignCounts, SourceView, View};
 pub use widths::Widths;

@@ -43,6 +43,13 @@ pub(crate) fn push_pieces(text: &mut String, pieces: &[Piece<'_>]) -> Result<(),
     Ok(())
 }
 
+/// Writes a text at the end of the text.
+pub(crate) fn push_word(text: &mut String, word: &str) -> Result<(), AllocError>
+    ensures { OnOk result (string_bytes text.new ≡ string_bytes text.old ++ word.now) }
+{
+    text.push_str(word)
+}
+
 /// Writes a piece at the end of the text.
 fn push_piece(text: &mut String, piece: &Piece<'_>) -> Result<(), AllocError>
     ensures { OnOk result (string_bytes text.new ≡ string_bytes text.old ++ piece_text piece.now) }

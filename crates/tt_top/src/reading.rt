@@ -3,11 +3,11 @@
 ghost use Rattle.std.specs.Prelude.{◌≡◌, ◌⊎◌, ◌≤◌, IfOk, IfErr};
 ghost use Rattle.std.specs.Option.{option_map};
 ghost use Rattle.tt_top.specs.Field.{value_of};
-ghost use Rattle.tt_top.specs.View.{count_of, source_label, holds, unopened_for, unopened_of, span_if, span_of_source, source_of, sources_of, life_of, commits_of, signs_of, fused_of, view_with, result_of};
+ghost use Rattle.tt_top.specs.View.{count_of, source_label, holds, unopened_for, unopened_of, span_if, span_of_source, source_of, sources_of, life_of, commits_of, signs_of, broke_of, fused_of, view_with, result_of};
 
 use crate::faults::ViewFault;
 use crate::fields::{nth, number_at, span_at, value};
-use crate::views::{CommitCounts, Life, SignCounts, SourceView, View};
+use crate::views::{Broke, CommitCounts, Life, SignCounts, SourceView, View};
 use arrayvec::ArrayVec;
 use std::alloc::{AllocError, Global};
 use tt_span::{MAX_TIME, Span};
@@ -177,6 +177,22 @@ impl Texts<'_> {
         })
     }
 
+    /// How the life before ended.
+    fn broke(&self, alloc: Global) -> Result<Broke, AllocError>
+        ensures { IfOk result (λ broke. broke ≡ broke_of self.now.status.now self.now.machine) }
+    {
+        let at = self.count(alloc, "truetime_last_break_timestamp_seconds", "")?;
+        let assumption = self.count(
+            alloc,
+            "truetime_last_break_info",
+            ",event=\"assumption_broken\"",
+        )?;
+        Ok(Broke {
+            at,
+            by_assumption: assumption == 1,
+        })
+    }
+
     /// All that is shown.
     fn view(&self, alloc: Global) -> Result<View, AllocError>
         ensures { IfOk result (λ view. view ≡ view_with self.now.status.now self.now.evidence.now self.now.machine) }
@@ -195,6 +211,7 @@ impl Texts<'_> {
         let life = self.life(alloc)?;
         let commits = self.commits(alloc)?;
         let signs = self.signs(alloc)?;
+        let broke = self.broke(alloc)?;
         match self.sources(alloc, count.min(16), &fused) {
             Ok(sources) => Ok(View {
                 life,
@@ -205,6 +222,7 @@ impl Texts<'_> {
                 commits,
                 sharing: sharing == 1,
                 signs,
+                broke,
             }),
             Err(error) => Err(error),
         }

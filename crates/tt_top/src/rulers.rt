@@ -1,7 +1,7 @@
 //! Where times stand on an axis.
 
 ghost use Rattle.std.specs.Prelude.{◌≡◌, ◌≤◌};
-ghost use Rattle.tt_top.specs.Ruler.{ruler_over, ruler_of, place_of, left_of, length_of, time_at};
+ghost use Rattle.tt_top.specs.Ruler.{ruler_over, ruler_of, place_of, left_of, extent_of, time_at};
 
 use crate::bars::Reach;
 use crate::views::SourceView;
@@ -63,8 +63,8 @@ impl Ruler {
     }
 
     /// How many units a span has: up to the unit of its end, at least four.
-    pub(crate) fn length(self, span: &Span) -> u64
-        ensures value { result ≡ length_of self span.now }
+    pub(crate) fn extent(self, span: &Span) -> u64
+        ensures value { result ≡ extent_of self span.now }
     {
         let left = self.left(span);
         let right = (self.place(span.hi()) + 1).min(LENGTH);

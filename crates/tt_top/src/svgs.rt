@@ -1,12 +1,12 @@
 //! The picture of a view, as SVG: bars on an axis.
 
 ghost use Rattle.std.specs.Prelude.{◌≡◌, ◌++◌, ◌≤◌, OnOk, string_bytes};
-ghost use Rattle.tt_top.specs.Svg.{base_of, opening_of, style, closing, svg_text};
+ghost use Rattle.tt_top.specs.Svg.{base_of, opening_of, svg_of, svg_text};
 
-use crate::charts::{push_spans, row};
+use crate::charts::{count, push_spans, row};
 use crate::forms::Form;
 use crate::histories::push_widths;
-use crate::pieces::{Piece, push_pieces};
+use crate::pieces::{Piece, push_pieces, push_word};
 use crate::views::View;
 use std::alloc::AllocError;
 
@@ -15,7 +15,8 @@ const STYLE: &str = "<style>
 svg { --ink: #1c2128; --paper: #ffffff; --line: #6e7781; --source: #2f6fb3; --bad: #c4262e; --fused: #1f7a3a; --band: #d8efdc; background: var(--paper) }
 @media (prefers-color-scheme: dark) { svg { --ink: #e6edf3; --paper: #11151a; --line: #8b949e; --source: #6cb0f5; --bad: #ff7b72; --fused: #56d36f; --band: #17361f } }
 svg text { font: 28px sans-serif; fill: var(--ink) }
-svg .tick { text-anchor: middle; font-size: 26px }
+svg .tick { text-anchor: middle }
+svg .tick, svg .now { font-size: 26px }
 svg .end { text-anchor: end }
 svg .axis { stroke: var(--line); stroke-width: 2; fill: none }
 svg .source rect { fill: var(--source) }
@@ -51,6 +52,23 @@ fn push_opening(text: &mut String, sources: u64) -> Result<(), AllocError>
     )
 }
 
+/// Writes the document of a view with so many sources.
+fn push_sized(
+    text: &mut String,
+    view: &View,
+    form: &Form,
+    widths: &[u64],
+    count: u64,
+) -> Result<(), AllocError>
+    ensures { OnOk result (string_bytes text.new ≡ string_bytes text.old ++ svg_of form.now view.now widths.now count) }
+{
+    let base = base(count);
+    push_opening(text, count)?;
+    push_spans(text, form, &view.fused, view.sources.as_slice())?;
+    push_widths(text, form, view, base, widths)?;
+    push_word(text, "</svg>\n")
+}
+
 /// Writes the picture of a view at the end of the text, as an SVG document of 960 units: a bar for the span of each source
 /// and for the fused one on an axis of 800 units, from 150 on, whose marks say how far they lie from the middle of the fused
 /// span; and below them the last 200 of `widths`, the oldest first, in nanoseconds, four units each, up to the right end.
@@ -67,10 +85,6 @@ pub fn push_svg(
 ) -> Result<(), AllocError>
     ensures written { OnOk result (string_bytes text.new ≡ string_bytes text.old ++ svg_text form.now view.now widths.now) }
 {
-    let sources = view.sources.as_slice();
-    let count = sources.len() as u64;
-    push_opening(text, count)?;
-    push_spans(text, form, &view.fused, sources)?;
-    push_widths(text, form, view, base(count), widths)?;
-    text.push_str("</svg>\n")
+    let count = count(view.sources.as_slice());
+    push_sized(text, view, form, widths, count)
 }

@@ -65,6 +65,15 @@ pub struct CommitCounts {
     pub together: u64,
 }
 
+/// How the life before this one ended.
+#[derive(Clone, Copy, Default)]
+pub struct Broke {
+    /// When it noticed that an assumption was broken, in nanoseconds since 1970; 0 if it did not.
+    pub at: u64,
+    /// Whether the status says that this was why.
+    pub by_assumption: bool,
+}
+
 /// What a machine shows of itself at one moment.
 #[derive(Drop)]
 pub struct View {
@@ -84,4 +93,6 @@ pub struct View {
     pub sharing: bool,
     /// What an operator may have to act on.
     pub signs: SignCounts,
+    /// How the life before this one ended.
+    pub broke: Broke,
 }

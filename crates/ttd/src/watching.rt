@@ -5,19 +5,21 @@ use crate::services::Stop;
 use crate::serving::settings_of;
 use std::alloc::{AllocError, AllocFailed, Global};
 use std::fs::{self, File, Files};
-use std::io::{self, Eprint, IsTerminal, Write};
+use std::io::{self, Eprint, IsTerminal, Read, Write};
 use std::net::{Ipv4Addr, Net, SocketAddr, TcpStream};
 use std::os::unix::fs::MetadataExt;
 use std::rt::Env;
+use std::sync::Arc;
+use std::sync::atomic::{AtomicBool, Ordering};
 use std::time::{Clock as SystemClock, Duration};
 use std::{env, thread};
 use tt_clock::MachineClock;
-use tt_host::{ByClock, Host, nanoseconds};
+use tt_host::{ByClock, Host, ServiceHost, nanoseconds};
 use tt_publish::Clock;
 use tt_session::{Deadline, DeadlineReader, Timed};
 use tt_settings::{Key, SettingsFault};
 use tt_stream::{ByteWriter, ReadFault, read_to_end};
-use tt_top::{Form, MAX_COLUMNS, View, ViewFault, push_svg, push_view, read_view};
+use tt_top::{Form, MAX_COLUMNS, Past, View, ViewFault, lines_of, push_svg, push_view, read_view};
 use ttd_masters::{StartFault, bytes_of};
 use ttd_words::{TopPlace, write};
 
@@ -45,21 +47,47 @@ const CLEAR: &str = "\x1b[H\x1b[2J";
 /// What is shown while there is no view.
 const NOTHING: &str = "\x1b[H\x1b[2Jno status can be read\n";
 
-/// Where the program prints to.
+/// Where the program prints to, and what it is told there.
 pub(crate) trait Screen {
     /// Whether standard output is a terminal.
     fn is_terminal(&self) -> bool;
+
+    /// Waits until a line of standard input begins with `q`. Answers whether one does: else the input has ended, or fails.
+    fn waits_for_end(&self) -> bool;
 }
 
 impl Screen for HostRuntime {
     fn is_terminal(&self) -> bool {
         self.stdout().is_terminal()
     }
+
+    fn waits_for_end(&self) -> bool {
+        let mut input = self.reader();
+        let mut buffer = [0; 64];
+        let mut begins = true;
+        for _ in 0..u64::MAX {
+            let count = match input.read(&mut buffer) {
+                Ok(count) if count > 0 => count.min(64),
+                _ => return false,
+            };
+            for byte in &buffer[..count] {
+                if begins && *byte == b'q' {
+                    return true;
+                }
+                begins = *byte == b'\n';
+            }
+        }
+        false
+    }
 }
 
 impl<R: Screen> Screen for ByClock<R> {
     fn is_terminal(&self) -> bool {
         self.handle().is_terminal()
+    }
+
+    fn waits_for_end(&self) -> bool {
+        self.handle().waits_for_end()
     }
 }
 
@@ -196,14 +224,67 @@ fn say<H: Eprint>(rt: &H, origin: &Origin, fault: &LookFault) {
     };
 }
 
-/// Shows what a machine sees: twice a second until the program is ended, or once. What can't be had at a later look is
+/// What is kept from one look to the next.
+#[derive(Drop)]
+struct Looks {
+    /// The widths of the looks before, the oldest first, in nanoseconds.
+    widths: Vec<u64>,
+    past: Past,
+    /// How many rounds there were, and the reading of the monotonic clock at the first look that saw as many.
+    rounds: Option<u64>,
+    since: u64,
+}
+
+impl Looks {
+    /// No look was made so far.
+    fn new<H: Host>(rt: &H) -> Looks {
+        let now = monotonic_of(rt);
+        Looks {
+            widths: Vec::new(rt.alloc()),
+            past: Past::new(now),
+            rounds: None,
+            since: now,
+        }
+    }
+
+    /// A look is made when the monotonic clock shows `now`.
+    fn see(&mut self, view: &View, now: u64) -> Result<(), AllocError> {
+        self.past.see(view, now);
+        if self.rounds != Some(view.life.rounds) {
+            self.rounds = Some(view.life.rounds);
+            self.since = now;
+        }
+        if let Some(width) = view.width {
+            if self.widths.len() as u64 >= MAX_COLUMNS {
+                let _ = self.widths.remove(0);
+            }
+            self.widths.push(width)?;
+        }
+        Ok(())
+    }
+}
+
+/// What the monotonic clock shows, in nanoseconds; 0 if it can't be read.
+fn monotonic_of<H: Host>(rt: &H) -> u64 {
+    MachineClock::new(rt).read().unwrap_or(0)
+}
+
+/// The time in nanoseconds since 1970; 0 if it can't be read.
+fn time_of<H: SystemClock>(rt: &H) -> u64 {
+    match rt.since_1970() {
+        Ok(elapsed) => nanoseconds(elapsed).unwrap_or(u64::MAX),
+        Err(_) => 0,
+    }
+}
+
+/// Shows what a machine sees: twice a second until the program is ended or a line of standard input begins with `q`, or once. What can't be had at a later look is
 /// tried again at the next one. Standard error says what a refusal is about: an address or a path.
 ///
 /// Refuses as `serve` does where the configuration is refused, with 1803 where it names no `status`, with 1604 `ReadFailed`
 /// where the status can't be read, with 1501 `LinkFailed` where nothing answers with it, with 2601 and 2602 where what is
 /// read is not the status or the evidence of a machine, and with 1 `Memory`. With neither `once` nor `svg` it refuses the
 /// configuration alone.
-pub(crate) fn show<H: Host + Env + Screen, O: ByteWriter>(
+pub(crate) fn show<H: ServiceHost + Env + Screen, O: ByteWriter>(
     rt: &H,
     place: TopPlace<'_>,
     manner: Manner,
@@ -216,6 +297,8 @@ pub(crate) fn show<H: Host + Env + Screen, O: ByteWriter>(
         colour: !manner.svg && is_coloured(rt),
         silent_after: sight.silent_after,
         max_width: sight.max_width,
+        age: None,
+        time: 0,
     };
     if !manner.once && !manner.svg {
         return show_on(rt, &sight.origin, &form, output);
@@ -229,25 +312,52 @@ pub(crate) fn show<H: Host + Env + Screen, O: ByteWriter>(
     }
 }
 
-/// Draws a machine again and again. It ends only where the output fails.
-fn show_on<H: Host, O: ByteWriter>(
+/// Draws a machine again and again. It ends where a line of standard input begins with `q`, or where the output fails.
+fn show_on<H: ServiceHost + Env + Screen, O: ByteWriter>(
     rt: &H,
     origin: &Origin,
     form: &Form,
     output: &mut O,
 ) -> Result<(), Stop> {
-    let mut widths = Vec::new(rt.alloc());
+    let ended = Arc::new(rt.alloc(), AtomicBool::new(false)).map_err(|_| memory())?;
+    start_input(rt, &ended);
+    let lines = number_in(rt, "LINES").unwrap_or(u64::MAX);
+    let mut looks = Looks::new(rt);
     for _look in 0..u64::MAX {
-        let did = match draw_next(rt, origin, form, &mut widths) {
-            Ok(text) => write(output, text.as_str().as_bytes()),
+        let did = match draw_next(rt, origin, form, &mut looks) {
+            Ok(text) => {
+                let bytes = text.as_str().as_bytes();
+                write(output, &bytes[..lines_of(bytes, lines)])
+            }
             Err(_) => write(output, NOTHING.as_bytes()),
         };
         if did.is_err() {
             return Err(Stop::Unwritten);
         }
         thread::sleep(rt, Duration::from_millis(PAUSE));
+        if ended.load(Ordering::SeqCst) {
+            break;
+        }
     }
     Ok(())
+}
+
+/// What is refused where an allocation fails.
+fn memory() -> Stop {
+    Stop::Refused(ServiceFault::Memory)
+}
+
+/// Starts the thread that reads standard input. It is never joined. Without it, only the end of the program ends a picture.
+fn start_input<H: ServiceHost + Screen>(rt: &H, ended: &Arc<AtomicBool, Global>) {
+    let rt = *rt;
+    let Ok(theirs) = Arc::try_clone(ended) else {
+        return;
+    };
+    let _ = thread::spawn(&rt, move || {
+        if rt.waits_for_end() {
+            theirs.store(true, Ordering::SeqCst)
+        }
+    });
 }
 
 /// One look, as text or as SVG.
@@ -259,33 +369,55 @@ fn draw_once<H: Host>(
 ) -> Result<String, LookFault> {
     let view = view_of(rt, origin)?;
     let mut text = String::new(rt.alloc());
+    let form = form_at(rt, origin, form, None);
+    let mut past = Past::new(0);
+    past.see(&view, 0);
     if svg {
-        push_svg(&mut text, &view, form, &[view.width.unwrap_or(0)])?;
+        push_svg(&mut text, &view, &form, &[view.width.unwrap_or(0)])?;
     } else {
-        push_old(rt, &mut text, origin, form)?;
-        push_view(&mut text, &view, form, &[])?;
+        push_view(&mut text, &view, &form, &[], &past)?;
     }
     Ok(text)
 }
 
-/// One look of many, on a clear screen. Its width is added to those of the looks before.
+/// One look of many, on a clear screen.
 fn draw_next<H: Host>(
     rt: &H,
     origin: &Origin,
     form: &Form,
-    widths: &mut Vec<u64>,
+    looks: &mut Looks,
 ) -> Result<String, LookFault> {
     let view = view_of(rt, origin)?;
-    if let Some(width) = view.width {
-        if widths.len() as u64 >= MAX_COLUMNS {
-            let _ = widths.remove(0);
-        }
-        widths.push(width)?;
-    }
+    let now = monotonic_of(rt);
+    looks.see(&view, now)?;
+    let form = form_at(rt, origin, form, Some(now.saturating_sub(looks.since)));
     let mut text = String::from_str(rt.alloc(), CLEAR)?;
-    push_old(rt, &mut text, origin, form)?;
-    push_view(&mut text, &view, form, widths.as_slice())?;
+    push_view(
+        &mut text,
+        &view,
+        &form,
+        looks.widths.as_slice(),
+        &looks.past,
+    )?;
     Ok(text)
+}
+
+/// How a view is drawn now: with the age of the file that it is from, or that at an address since the first look that saw it,
+/// and with the time.
+fn form_at<H: Host>(rt: &H, origin: &Origin, form: &Form, seen: Option<u64>) -> Form {
+    let age = match origin {
+        Origin::Files { status, .. } => age_of(rt, status.as_str()),
+        Origin::Port(_) => seen,
+    };
+    Form {
+        columns: form.columns,
+        ascii: form.ascii,
+        colour: form.colour,
+        silent_after: form.silent_after,
+        max_width: form.max_width,
+        age,
+        time: time_of(rt),
+    }
 }
 
 /// How long ago the file with this path was written, in nanoseconds: 0 where its time is ahead. None where that can't be seen.
@@ -296,26 +428,6 @@ fn age_of<H: Files<File = File> + SystemClock>(rt: &H, path: &str) -> Option<u64
     let written = seconds.saturating_mul(SECOND).saturating_add(nanos);
     let now = nanoseconds(rt.since_1970().ok()?)?;
     Some(now.saturating_sub(written))
-}
-
-/// Adds a line where the status stands in a file that was written more than two rounds and a second ago: then the machine
-/// stands still, or has ended, and what follows is of the past.
-fn push_old<H: Files<File = File> + SystemClock>(
-    rt: &H,
-    text: &mut String,
-    origin: &Origin,
-    form: &Form,
-) -> Result<(), AllocError> {
-    let Origin::Files { status, .. } = origin else {
-        return Ok(());
-    };
-    let rounds = form.silent_after / 3 * 2;
-    match age_of(rt, status.as_str()) {
-        Some(age) if age > rounds.max(SECOND) => {
-            write!(text, "! the status is {} s old\n", age / SECOND)
-        }
-        _ => Ok(()),
-    }
 }
 
 /// What the texts of a machine show now.
@@ -447,12 +559,17 @@ fn body_of(alloc: Global, answer: &[u8]) -> Result<Vec<u8>, LookFault> {
     Err(LookFault::Code)
 }
 
+/// The number that a variable of the environment is, if it is one.
+fn number_in<H: AllocGlobal + Env>(rt: &H, name: &str) -> Option<u64> {
+    match env::var(rt, name) {
+        Ok(text) => text.as_str().parse::<u64>().ok(),
+        Err(_) => None,
+    }
+}
+
 /// The columns of the terminal, as the environment has them.
 fn columns_of<H: AllocGlobal + Env>(rt: &H) -> u64 {
-    match env::var(rt, "COLUMNS") {
-        Ok(text) => text.as_str().parse::<u64>().unwrap_or(DEFAULT_COLUMNS),
-        Err(_) => DEFAULT_COLUMNS,
-    }
+    number_in(rt, "COLUMNS").unwrap_or(DEFAULT_COLUMNS)
 }
 
 /// Whether the picture has colours: on a terminal, unless NO_COLOR is set and not empty.

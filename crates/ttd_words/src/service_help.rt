@@ -142,17 +142,20 @@ Refused:
 
 /// What `top` does.
 pub(crate) const ABOUT_TOP: &str = "\
-Shows what a machine sees, twice a second until it is ended: the interval of each source as a bar on
-one scale, with its offset, its round trip, its age and the ends of the fused interval that it
-holds; the fused interval; the width of readings over time; commits; and a line for each sign that
-somebody may have to act on. With --once it shows this once, and with --svg it draws it once as SVG.
+Shows what a machine sees, twice a second until a line of standard input begins with q, or it is
+killed: how old that is, marked by ! beyond two rounds; the interval of each source as a bar on one
+scale, with its offset, its round trip, its age and the ends of the fused interval that it holds;
+the fused interval; the width of readings over time; commits; and a line for each sign that somebody
+may have to act on. Counts of what is past have a time: within it the count rose, or was seen to
+stay. With --once it shows this once, and with --svg it draws it once as SVG.
 
 FILE is the configuration of the machine. It has to name `status`, and there are bars if it names
 `evidence`. ADDRESS is 127.0.0.1: and the port that `http` of the configuration names. A text with a
 slash, or without a colon, is the path of a file.
 
-Without --columns it is as wide as COLUMNS says, or 80 columns, and at least 64. It is ASCII unless
-the first of LC_ALL, LC_CTYPE and LANG that is set names UTF-8.
+Without --columns it is as wide as COLUMNS says, or 80 columns, and at least 64. LINES says how many
+lines it has at most. `truetime-top` takes both from the terminal, and ends at the key q. It is ASCII
+unless the first of LC_ALL, LC_CTYPE and LANG that is set names UTF-8.
 
 Examples:
   ttd top /etc/truetime/db.toml

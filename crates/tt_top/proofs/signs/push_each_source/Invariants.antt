@@ -5,4 +5,4 @@ use Rattle.tt_top.specs.Sign.{source_signs}
 use Rattle.tt_top.proofs.signs.push_each_source.Given as goal
 
 abbrev pub invariant-loop-source : goal.invariant-loop-source
-invariant-loop-source l = string_bytes l.text ≡ string_bytes l.fn.text ++ flat_map (source_signs l.form) (take l.source-index l.sources)
+invariant-loop-source l = string_bytes l.text ≡ string_bytes l.fn.text ++ flat_map (source_signs l.form l.past) (take l.source-index l.sources)

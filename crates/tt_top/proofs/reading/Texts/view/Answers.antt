@@ -17,5 +17,5 @@ returns-in-Ok c =
     c.in-Ok.ensures
     ∙ ap (λ (fused : Option Interval). sources_of status evidence self.machine fused c.min.result) c.fused-fused.ensures
     ∙ ap (λ (n : ℕ). sources_of status evidence self.machine (fused_of evidence) n) many in
-    same_view _ _ _ _ _ _ _ _ _ _ _ _ _ _ _ _ c.in_ok-life.ensures c.number_at-faulty.ensures sources c.fused-fused.ensures c.in_ok-width.ensures c.in_ok-commits.ensures
-    (ap (λ (n : ℕ). n == 1) c.in_ok-sharing.ensures) c.in_ok-signs.ensures
+    same_view _ _ _ _ _ _ _ _ _ _ _ _ _ _ _ _ _ _ c.in_ok-life.ensures c.number_at-faulty.ensures sources c.fused-fused.ensures c.in_ok-width.ensures c.in_ok-commits.ensures
+    (ap (λ (n : ℕ). n == 1) c.in_ok-sharing.ensures) c.in_ok-signs.ensures c.in_ok-broke.ensures
