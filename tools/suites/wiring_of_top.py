@@ -425,7 +425,7 @@ def page_for_people(trial):
 
     def look():
         seen = get(port, "/")
-        return seen.text.count(" suspect\">") >= 2 and seen.text.count(" never\">") >= 2 and seen
+        return seen.text.count(" suspect\">") >= 2 and seen.text.count(" never\">") >= 2 and "<p>ok</p>" in seen.text and seen
 
     answer = eventually(look, 20)
     trial.check("setting http", answer, f"no page shows the suspect and the one that never answered: {get(port, '/').text[-3000:]}")
@@ -440,7 +440,7 @@ def page_for_people(trial):
     trial.check("setting http", all(150 <= bar[0] and bar[0] + bar[1] <= 950 for bar in [*filter(None, sources), *fused]), f"{sources} {fused}")
     trial.equal("setting http", [row[0].text for row in document.iter("tr")][1:], ["0", "1", "2", "3", "4"])
     said = "".join(document.itertext())
-    trial.check("setting http", "machine 5  epoch" in said and re.search(r"status \d{1,3} ms old", said) and "\nok\n" in said, said[:600])
+    trial.check("setting http", "machine 5  epoch" in said and re.search(r"status \d{1,4} ms old", said), said[:600])
     trial.equal("setting http", [one.tag for one in document.iter() if one.tag in ("script", "link", "img", "iframe") or one.get("src") or one.get("href")], [])
     # Each three seconds has a width of its own.
     eventually(lambda: re.search(r'class="width" d="[^"]*v-\d+v\d+m4 0v-\d+v\d+m4 0"', get(port, "/").text), 15)

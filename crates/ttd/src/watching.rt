@@ -249,6 +249,9 @@ impl Looks {
 
     /// A look is made when the monotonic clock shows `now`.
     fn see(&mut self, view: &View, now: u64) -> Result<(), AllocError> {
+        if self.rounds.is_none() {
+            self.past = Past::new(now);
+        }
         self.past.see(view, now);
         if self.rounds != Some(view.life.rounds) {
             self.rounds = Some(view.life.rounds);
