@@ -97,7 +97,6 @@ fn push_path(text: &mut String, base: u64, widths: &[u64]) -> Result<(), AllocEr
 }
 
 /// Writes the line below the widths, what its ends are, and the width of a reading now.
-#[tactic(auto, unfolding(crate::specs::History::base_text))]
 fn push_base(text: &mut String, form: &Form, view: &View, base: u64) -> Result<(), AllocError>
     requires { base ≤ 100000 }
     ensures { OnOk result (string_bytes text.new ≡ string_bytes text.old ++ base_text form.now view.now base) }

@@ -11,4 +11,4 @@ returns c =
     let fused = c.args.fused.now in
     let ruler = c.args.ruler in
     three_on_ok c.push_word.result (string_bytes c.args.text.now) _ _ _ (fused_label (left_of ruler fused) (extent_of ruler fused) (fused_length fused) c.args.number) (span_rect ruler fused c.args.number) (codes "</g>\n")
-    (rw (c.left.ensures.value, c.extent.ensures.value, c.hi.ensures.value, c.lo.ensures.value) at c.in_ok-push_fused_label.ensures) c.in_ok-push_rect.ensures c.push_word.ensures
+    (rw (c.left-left.ensures.value, c.extent-extent.ensures.value, c.hi.ensures.value, c.lo.ensures.value) at c.in_ok-push_fused_label.ensures) c.in_ok-push_rect.ensures c.push_word.ensures

@@ -12,4 +12,4 @@ returns c =
     let past = c.args.past.now in
     then_on_ok c.push_table.result (string_bytes c.args.text.now) (string_bytes c.push_title.new.text) _ (title_text view) _ c.in_ok-push_title.ensures
     (three_on_ok c.push_table.result (string_bytes c.push_title.new.text) _ _ _ (noted_text form past view) (svg_text form view c.args.widths.now) (table_text form view.fused view.sources.items)
-    c.in_ok-push_noted.ensures c.in_ok-push_svg.ensures (rw c.as_slice.ensures.value at c.push_table.ensures))
+    c.in_ok-push_noted.ensures c.in_ok-push_svg.ensures.written (rw c.as_slice.ensures.value at c.push_table.ensures))
