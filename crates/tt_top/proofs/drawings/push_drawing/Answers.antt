@@ -4,9 +4,9 @@ use Rattle.tt_top.specs.Svg.{svg_text}
 use Rattle.tt_top.proofs.Appending.{then_on_ok, three_on_ok}
 use Rattle.tt_top.proofs.drawings.push_drawing.Goals as goal
 
-pub returns : goal.returns
+pub returns-clause-written : goal.returns-clause-written
 unfolding drawing_text
-returns c =
+returns-clause-written c =
     let form = c.args.form.now in
     let view = c.args.view.now in
     let past = c.args.past.now in
