@@ -237,7 +237,7 @@ def no_descriptors(trial):
     with socket.create_connection(node.address, 5):
         trial.logs(node, "not_accepted", errno=errno.EMFILE)
         polls = len(masters[0].polls)
-        # The file that shows whether the host slept stays open.
+        # That the host slept is seen by its clocks, which take no descriptor.
         trial.check("log not_accepted", eventually(lambda: len(masters[0].polls) > polls + 2), "its rounds do not go on")
     trial.equal("log sleep_unseen", node.said("sleep_unseen"), [])
 
