@@ -155,8 +155,10 @@ class Node(Machine):
         return of_threads(self.running.pid, name)
 
     def allow_no_more_descriptors(self):
-        number = len(os.listdir(f"/proc/{self.running.pid}/fd"))
-        resource.prlimit(self.running.pid, resource.RLIMIT_NOFILE, (number, number))
+        """By its soft limit. The limits before, which may be set again."""
+        before = resource.prlimit(self.running.pid, resource.RLIMIT_NOFILE)
+        resource.prlimit(self.running.pid, resource.RLIMIT_NOFILE, (len(os.listdir(f"/proc/{self.running.pid}/fd")), before[1]))
+        return before
 
 
 # Masters.

@@ -3,17 +3,19 @@ import contextlib
 import os
 import random
 import signal
+import socket
 import time
 
 from harness.processes import SECOND, raw_ns, truetime
 from harness.program import read, run, write
-from harness.trouble import disrupt, page
+from harness.trouble import Spoils, disrupt, honest, page
+from harness.users import is_closed_within
 from suites.breaks import suite
 from suites.breaks_world import MILLISECOND, Users, World
 from suites.wiring_checks import eventually
 
-# Rates by which a clock stands still, is 1 % fast, and a fifth of that.
-STANDS, FAST, LESS_FAST = -1_000_000, 10_000, 2_000
+# Rates by which a clock stands still, is 1 % fast, a fifth of that, and 8.3 % slow.
+STANDS, FAST, LESS_FAST, SLOW = -1_000_000, 10_000, 2_000, -83_000
 
 
 def between_rounds(world):
@@ -163,6 +165,54 @@ def clock_fast_within_the_width(trial):
     world.spoils.turn(LESS_FAST)
     yield from world.rises('source_clock_rate_ratio{source="0"}', 0.0015, 20)
     yield from world.goes_on_rightly()
+
+
+@suite.case()
+def clock_slow_by_what_the_drift_covers(trial):
+    """It loses 8.3 % of true time, which is 9.05 % of what it shows itself. Where `drift` covers that no reading is wrong and nothing breaks; where it
+    has the first number alone readings are, until the next round."""
+    masters = [trial.master(source, uncertainty=10_000) for source in range(3)]
+    world = World(trial, masters, poll="1s", drift=90_910)
+    other = trial.node(masters, "B", poll="1s", drift=83_333, on_break="warn", socket=os.path.join(trial.room, "B", "socket"))
+    other.environment = world.spoils.environment
+    other.run()
+    other.wait_until_ready()
+    users = trial.keep(Users(other))
+    since = world.spoils.turn(SLOW)
+    time.sleep(3)
+    if world.unit.ends or world.users.wrong() or world.node.said("assumption_broken"):
+        yield f"by a drift that covers it {len(world.users.wrong())} readings were wrong, and lives ended so: {world.unit.ends}"
+    trial.note(f"{len(users.wrong())} of {len(users.readings)} readings were wrong by the other drift")
+    if not users.wrong() or users.wrong()[0].after < since or not other.said("assumption_broken"):
+        yield f"by the other drift {len(users.wrong())} readings were wrong, and the log has {other.said('assumption_broken')}"
+    yield from world.goes_on_rightly()
+
+
+@suite.case()
+def clock_past_its_greatest(trial):
+    """It comes to 4 * 10^18 nanoseconds, above which it counts as one that cannot be read: rounds are given up, a session is told 803, a new one is
+    closed, and the machine stays."""
+    spoils, node = Spoils(trial.room), trial.node(trial.fakes(*[honest] * 3), poll="100ms")
+    spoils.tell("course", f"{raw_ns()} {4 * 10**18 - 3 * SECOND} 0\n")
+    node.environment = spoils.environment
+    node.run()
+    node.wait_until_ready()
+    with truetime.Session(node.address, 5) as session:
+        session.now()
+        eventually(lambda: node.said("clock_back"))
+        refused = []
+        for _ in range(3):
+            try:
+                refused.append(session.now())
+            except truetime.Refused as error:
+                refused.append(error.number)
+            time.sleep(0.2)
+    if refused != [803] * 3 or not node.said("clock_back"):
+        yield f"past it a session has {refused}, and the log {node.end_of_log()}"
+    with socket.create_connection(node.address, 5) as door:
+        if not is_closed_within(door, 1):
+            yield "past it a new session is served"
+    yield from node.ends()
 
 
 # Sleep.

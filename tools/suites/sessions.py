@@ -501,6 +501,33 @@ def kernel_memory_of_who_reads_nothing(trial):
 
 
 @suite.case(quiet=True)
+def many_that_read_nothing(trial):
+    """Of one worker, whose sockets fill together: no line of another session waits until each of them has waited."""
+    node, sessions = trial.running_node(trial.masters(3), workers=1), 150
+    with contextlib.ExitStack() as stack:
+        other, doors = Door(stack, node.address), [stack.enter_context(socket.socket()) for _ in range(sessions)]
+        for door in doors:
+            door.setsockopt(socket.SOL_SOCKET, socket.SO_RCVBUF, 2304)
+            door.connect(node.address)
+            door.setblocking(False)
+        took, sent, before = [], 0, node.held_up_ns()
+        for _ in range(60):
+            for door in doors:
+                with contextlib.suppress(BlockingIOError):
+                    sent += door.send(b"\n" * 2048)
+            what, nanoseconds = other.now()
+            took.append(nanoseconds)
+            if what:
+                yield what
+        took, held_up = sorted(took), node.held_up_ns() - before
+        trial.note(f"beside {sessions} that send {sent // sessions} lines each and read nothing a line takes {in_us(median_and_tail(took))} us (median, 99th "
+                   f"percentile), {took[-1] // MILLISECOND} ms at most")
+        # A write that waits for a millisecond takes four at least: 150 of them are over half a second.
+        if took[-1] > 250 * MILLISECOND + held_up:
+            yield f"a line takes {in_us(took[-3:])} us beside {sessions} that read nothing, and {held_up // MILLISECOND} ms were for want of a processor"
+
+
+@suite.case(quiet=True)
 def a_client_that_reads_nothing(trial):
     """It does not keep its worker, and has all its replies once it reads."""
     node = trial.running_node(trial.masters(3), workers=1)

@@ -10,6 +10,7 @@ import itertools
 import os
 import socket
 import struct
+import subprocess
 import termios
 import time
 
@@ -25,6 +26,8 @@ SOON_S = 0.6
 RARE = 200
 #: How often lines are tried where one came late, and how many readings of the clock there are round a line that is held, and a few.
 TRIES, READINGS = 3, 14
+#: The status of an end by a break.
+BROKEN = 3
 #: Of so many pairs of lines the system does not keep all replies.
 PAIRS = 1500
 
@@ -308,3 +311,30 @@ def waits_that_fail(trial):
                 yield f"{often:.0f} readings of the clock in a second in which nothing can be waited for"
         if said := {reply for door in doors if (reply := door.reply().split()[0]) != "now"}:
             yield f"behind it lines are told {said}"
+
+
+@suite.case(quiet=True)
+def ends_beside_urgent_bytes(trial):
+    """Sessions of the Unix socket that have sent one each hold up neither an end in order nor one by a break. Reads that wait, each for a fifth of a
+    second, would for 13 seconds."""
+    for name in ("in order", "by a break"):
+        node, spoils = spoilable(trial, name.replace(" ", "-"), poll="100ms")
+        with contextlib.ExitStack() as stack:
+            doors = [Door(stack, node.path("socket")) for _ in range(64)]
+            for door in doors:
+                told(door, "now")
+            if name == "by a break":
+                spoils.turn(jump_ns=SECOND)
+            for door in doors:
+                with contextlib.suppress(OSError):  # a kernel may have none for Unix sockets, and the break may have come
+                    door.door.send(b"n", socket.MSG_OOB)
+            if name == "in order":
+                yield from node.ends()
+                continue
+            began = time.monotonic()
+            try:
+                status = node.running.wait(20)
+            except subprocess.TimeoutExpired:
+                status = None
+            if (took := time.monotonic() - began) > 1 or status != BROKEN:
+                yield f"it ended by a break after {took:.1f} seconds, with status {status}"

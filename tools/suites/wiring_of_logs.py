@@ -2,6 +2,7 @@
 import contextlib
 import errno
 import os
+import resource
 import select
 import shutil
 import socket
@@ -230,16 +231,21 @@ def signs_within_the_first_round(trial):
 
 @suite.case()
 def no_descriptors(trial):
-    """None is left for a connection."""
+    """None is left for a connection. Rounds go on, and a client that took them and left again leaves nothing: that the host sleeps is seen."""
     masters = trial.scripts(honest)
-    node = trial.running_node(masters)
-    node.allow_no_more_descriptors()
+    spoils, node = Spoils(trial.room), trial.node(masters, on_break="warn")
+    node.environment = spoils.environment
+    node.run()
+    node.wait_until_ready()
+    limits = node.allow_no_more_descriptors()
     with socket.create_connection(node.address, 5):
         trial.logs(node, "not_accepted", errno=errno.EMFILE)
         polls = len(masters[0].polls)
-        # That the host slept is seen by its clocks, which take no descriptor.
         trial.check("log not_accepted", eventually(lambda: len(masters[0].polls) > polls + 2), "its rounds do not go on")
     trial.equal("log sleep_unseen", node.said("sleep_unseen"), [])
+    resource.prlimit(node.running.pid, resource.RLIMIT_NOFILE, limits)
+    spoils.tell("boot", str(800_000_000))
+    trial.between("log host_slept", SECOND * 799 // 1000, int(trial.logs(node, "host_slept").get("slept_ns", 0)), SECOND * 8 // 10)
 
 
 @suite.case()
