@@ -164,6 +164,30 @@ def symlinks_at_locks(trial):
                 yield f"what the symlink at {name} names was {'written' if is_there else 'made'}"
 
 
+@suite.case()
+def hard_links(trial):
+    """What has a second name in place of a draft stays as it is, and so does what has one in place of a lock, which is not taken then."""
+    masters, victim = trial.masters(3), os.path.join(trial.room, "victim")
+    write(victim, b"keep\n")
+    for number, name in enumerate((*DRAFTS, "shared.lock", "state/lock")):
+        node = trial.node(masters, str(number))
+        os.makedirs(os.path.dirname(node.path(name)), exist_ok=True)
+        os.link(victim, node.path(name))
+        if name in DRAFTS:
+            node.run()
+            yield from node.serves()
+        elif name == "state/lock":
+            yield from refused_by_start(trial, node, 1812, (4, ))
+        else:
+            node.run()
+            node.wait_until_ready()
+            if [fields["number"] for fields in node.said("sharing_ended")] != ["1701"]:
+                yield f"the log has {node.said('sharing_ended')}"
+            yield from node.ends()
+        if read(victim) != b"keep\n":
+            yield f"what {name} is a second name of was written"
+
+
 FIFOS = "state/epoch", "state/lock", "state/epoch.new", "shared", "shared.new", "shared.lock", "status", "status.new", "socket"
 
 
