@@ -1,1 +1,3 @@
 pub mod Merging
+pub mod Acts
+pub mod Threads

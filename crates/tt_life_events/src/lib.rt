@@ -3,9 +3,14 @@
 //! Each thread of a machine did what it did in an order of its own. The law of merges says that all of it is one list in
 //! the order of true time, whose stamps are the history of the sequencer.
 //!
-//! - `merging`: `merging_laws`.
+//! Such a list is a list of events of the model of true time (`tt_world`), which replies to each reading and each stamp
+//! as the life did.
+//!
+//! - `merging`: `merging_laws`. `listing`: `event_list_laws`.
 #![tactic(auto)]
 
+mod listing;
 mod merging;
 
+pub use listing::event_list_laws;
 pub use merging::merging_laws;
