@@ -1,8 +1,6 @@
 -- One more event of a worker: a reading, a commit, a lease or a stamp.
-use Rattle.std.proofs.Common.{◌≡◌, ◌||◌, ◌&&◌, ℕ, suc, zero, ◌+◌, ◌<◌, ◌≤◌, max, Bool, true, false, cond, eqb, ltb, List, [], ◌∷◌, ◌++◌, length, is_some, Option, Some, None, Ok, Err, refl, sym, ap, subst, ◌∙◌, arith, eq-eqb, ne_eqb, le-ltb, lt-ltb, unwrap_or}
-use Rattle.std.specs.Option.{option_or}
+use Rattle.std.proofs.Common.{◌≡◌, ◌||◌, ℕ, ◌+◌, ◌<◌, ◌≤◌, Bool, true, false, cond, eqb, ltb, List, ◌∷◌, length, is_some, Option, Some, None, Ok, refl, sym, ap, subst, ◌∙◌, arith, eq-eqb, ne_eqb, le-ltb, lt-ltb, unwrap_or}
 use Rattle.std.proofs.lemmas.Bool.{or_from}
-use Rattle.std.proofs.lemmas.List.{append-nil}
 use Rattle.tt_span.specs.Time.{max_time}
 use Rattle.tt_span.specs.Interval.{Interval}
 use Rattle.tt_span.specs.Drift.{Moment}
@@ -10,13 +8,12 @@ use Rattle.tt_daemon.specs.Config.{Configuration}
 use Rattle.tt_publish.specs.declared.readings.FusedSpan.{FusedSpan}
 use Rattle.tt_stamp.specs.Stamp.{IsLeastStamp, IsTooFar, least_from, max_ahead, stamp_of}
 use Rattle.tt_stamp.proofs.Stamps.{IsLeastStamp-least_from, least_from-le}
-use Rattle.tt_stamp.specs.declared.commits.Id.{Id}
 use Rattle.tt_world.specs.Bad.{accepted, first_bad, has_machine, has_worker, is_arrived, is_unreadable}
 use Rattle.tt_world.specs.Commits.{arrival_of, is_queued, reading_since, stamp_held, stamping_after, stamping_of, stamps_of, task_of}
 use Rattle.tt_world.specs.Config.{config_at}
 use Rattle.tt_world.specs.Lease.{lease_of}
-use Rattle.tt_world.specs.Life.{Life, is_of, life_at, life_of, same_life}
-use Rattle.tt_world.specs.Past.{clock_of, moments_of, time_of}
+use Rattle.tt_world.specs.Life.{Life, life_at, same_life}
+use Rattle.tt_world.specs.Past.{clock_of, time_of}
 use Rattle.tt_world.specs.Publications.{publication_at, publications_of, reading_at, seen_of}
 use Rattle.tt_world.specs.Reply.{reply_of, reply_to, reply_unless_bad}
 use Rattle.tt_world.specs.declared.faults.WorldFault.{WorldFault}
@@ -26,7 +23,7 @@ use Rattle.tt_world.specs.declared.events.Reply.TheVariants as reply
 use Rattle.tt_world.specs.declared.workers.Arrival.{Arrival}
 use Rattle.tt_world.proofs.Simulation.Waiting.{happens}
 use Rattle.tt_world.proofs.Simulation.Lives.{same_life-own}
-use Rattle.tt_consistency.specs.Steps.{Step, steps_in}
+use Rattle.tt_consistency.specs.Steps.{Step}
 use Rattle.tt_consistency.proofs.Running.{Reached, kept_good}
 use Rattle.tt_life_events.specs.Acts.{Waiting}
 

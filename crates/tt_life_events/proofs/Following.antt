@@ -1,7 +1,7 @@
 -- A list of what the threads of a machine did is a run of the model.
-use Rattle.std.proofs.Common.{◌≡◌, ◌||◌, ◌&&◌, ℕ, suc, zero, ◌+◌, ◌^◌, ◌<◌, ◌≤◌, max, Bool, true, false, cond, eqb, ltb, List, [], ◌∷◌, ◌++◌, length, Option, Some, None, Ok, refl, sym, ap, subst, ◌∙◌, arith, lt-ltb, append_assoc}
+use Rattle.std.proofs.Common.{◌≡◌, ◌&&◌, ℕ, suc, zero, ◌^◌, ◌<◌, ◌≤◌, max, Bool, true, false, cond, eqb, List, [], ◌∷◌, ◌++◌, length, Option, Some, None, Ok, refl, sym, ap, subst, ◌∙◌, arith, lt-ltb, append_assoc}
 use Rattle.std.specs.Prelude.{IfSome}
-use Rattle.std.specs.Option.{option_map, option_or}
+use Rattle.std.specs.Option.{option_or}
 use Rattle.std.proofs.lemmas.Bool.{eqb-true}
 use Rattle.std.proofs.lemmas.List.{append-nil}
 use Rattle.tt_span.specs.Time.{max_time}
@@ -12,10 +12,10 @@ use Rattle.tt_publish.specs.declared.readings.FusedSpan.{FusedSpan}
 use Rattle.tt_stamp.specs.Stamping.{IsLegalRun, MayAdd, stamps_of as stamps_alone}
 use Rattle.tt_stamp.specs.Stamp.{stamp_of}
 use Rattle.tt_stamp.specs.declared.stampings.Stamping.{Stamping}
-use Rattle.tt_world.specs.Bad.{accepted, first_bad, has_worker}
-use Rattle.tt_world.specs.Commits.{arrival_of, is_queued, reading_since, stamp_given, stamp_held, stamping_of, stamps_of, with_stamp}
+use Rattle.tt_world.specs.Bad.{first_bad, has_worker}
+use Rattle.tt_world.specs.Commits.{reading_since, stamp_given, stamp_held, stamping_of, stamps_of, with_stamp}
 use Rattle.tt_world.specs.Config.{config_at}
-use Rattle.tt_world.specs.Life.{Life, is_of, life_at, life_of}
+use Rattle.tt_world.specs.Life.{Life, is_of, life_at}
 use Rattle.tt_world.specs.Past.{clock_of, moments_of, sends_of, sends_now, time_of}
 use Rattle.tt_world.specs.Publications.{publication_at, publications_of, reading_at, seen_of}
 use Rattle.tt_world.specs.Reply.{reply_of, stamping_reply}
@@ -30,8 +30,8 @@ use Rattle.tt_consistency.specs.Timeline.{AreOf, BeginsLife, Happening, IsForwar
 use Rattle.tt_consistency.specs.Timeline as telling
 use Rattle.tt_consistency.proofs.LivingRounds.{goes_on_by-steps}
 use Rattle.tt_consistency.proofs.Running.{Reached, told}
-use Rattle.tt_life_events.specs.Merging.{Deed, Does, Done, Stamps}
-use Rattle.tt_life_events.specs.Acts.{Act, AllReplyAs, CanBe, Gives, Happens, IsNext, IsRunOfAll, IsUnworked, LifeDone, Reads, RepliesAs, Waiting, asked_before, entries_in, events_by, events_in, if_given, moments_in, published_in, reading_events, reading_in, seen_by, seen_in, shown_by, shown_in, time_in, timeline_in, waits_by, waits_in}
+use Rattle.tt_life_events.specs.Merging.{Deed, Does, Stamps}
+use Rattle.tt_life_events.specs.Acts.{Act, AllReplyAs, CanBe, Gives, Happens, IsNext, IsRunOfAll, IsUnworked, LifeDone, Reads, RepliesAs, Waiting, entries_in, events_by, events_in, if_given, moments_in, published_in, reading_in, seen_in, shown_in, time_in, timeline_in, waits_in}
 use Rattle.tt_life_events.proofs.Asked.{IsWaiting, own, own_life, reached-arrive, reached-lease, reached-read, reached-stamp, read-good, read-reply, reply-good, stamp-good, stamp-is, stamping-is}
 use Rattle.tt_life_events.proofs.Quiet.{AreSame, happening-same, happening-sends}
 

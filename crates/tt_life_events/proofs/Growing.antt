@@ -5,7 +5,7 @@ use Rattle.tt_span.specs.Interval.{Interval}
 use Rattle.tt_fuse.specs.Depth.{slow_fusion}
 use Rattle.tt_source.specs.Table.{TableState, is_back, known_of, poll_of, take_of}
 use Rattle.tt_source.specs.declared.faults.SourceFault.{SourceFault}
-use Rattle.tt_daemon.specs.Daemon.{DaemonState, spans_of}
+use Rattle.tt_daemon.specs.Daemon.{spans_of}
 use Rattle.tt_daemon.specs.declared.faults.DaemonFault.{DaemonFault}
 use Rattle.tt_daemon.specs.declared.faults.DaemonFault.TheVariants as daemon
 use Rattle.tt_publish.specs.declared.readings.FusedSpan.{FusedSpan}

@@ -5,3 +5,4 @@ pub mod Asked
 pub mod Following
 pub mod Growing
 pub mod Threading
+pub mod WorkedMerge

@@ -1,5 +1,5 @@
 -- What the threads of a machine did by themselves can be one list.
-use Rattle.std.proofs.Common.{◌≡◌, ℕ, suc, zero, ◌+◌, ◌-◌, ◌<◌, ◌≤◌, Bool, true, false, cond, eqb, leb, List, [], ◌∷◌, ◌++◌, length, map, Option, Some, None, inl, inr, refl, sym, ap, subst, ◌∙◌, arith, ne_eqb, append_assoc, length-append}
+use Rattle.std.proofs.Common.{◌≡◌, ℕ, suc, ◌+◌, ◌-◌, ◌<◌, ◌≤◌, Bool, true, false, cond, eqb, leb, List, [], ◌∷◌, ◌++◌, length, Option, Some, None, inl, inr, refl, sym, ap, subst, ◌∙◌, arith, ne_eqb, append_assoc, length-append}
 use Rattle.std.specs.Prelude.{◌⊎◌, slice_index_or}
 use Rattle.std.specs.List.{AllByRecursion}
 use Rattle.std.specs.Option.{option_map}
@@ -8,7 +8,6 @@ use Rattle.std.proofs.Math.Seq.{get_or-append_seam}
 use Rattle.std.proofs.lemmas.Bool.Decides.{leb_tells}
 use Rattle.std.proofs.lemmas.List.{append-nil}
 use Rattle.tt_span.specs.Time.{max_time}
-use Rattle.tt_span.specs.Interval.{Interval}
 use Rattle.tt_span.specs.Drift.{Moment}
 use Rattle.tt_daemon.specs.Config.{Configuration}
 use Rattle.tt_publish.specs.declared.readings.FusedSpan.{FusedSpan}
@@ -21,12 +20,12 @@ use Rattle.tt_consistency.specs.Running.{Start}
 use Rattle.tt_consistency.specs.Steps.{Kept, Step, after_step, after_steps, new_kept}
 use Rattle.tt_consistency.specs.Timeline.{AreOf, Happening, IsAmong, IsForward, IsTimeline, Timed, clock_of_step, last_shown, last_time, moment_of, moments_told, step_of, steps_told}
 use Rattle.tt_consistency.specs.Timeline as telling
-use Rattle.tt_life_events.specs.Merging.{AreInOrder, Deed, Does, Done, IsMerge, IsMergeBefore, IsMergeOf, IsOneListWith, Stamps, if_stamp, stamps_in}
+use Rattle.tt_life_events.specs.Merging.{AreInOrder, Deed, Does, IsMerge, IsMergeBefore, IsMergeOf, IsOneListWith, Stamps, if_stamp, stamps_in}
 use Rattle.tt_life_events.specs.Acts.{Act, CanBe, Gives, Happens, IsNext, LifeDone, Reads, Waiting, entries_in, if_given, if_happens, published_in, reading_in, seen_by, seen_in, shown_by, shown_in, time_in, timeline_in, waits_in}
 use Rattle.tt_life_events.specs.Threads.{AreOfWorkers, AreOwn, AreSince, AreThreads, Begun, ClockRises, IsOwn, begun_by, begun_in, daemon_list, worker_of}
 use Rattle.tt_life_events.proofs.Growing.{Grows, step-grows}
 use Rattle.tt_life_events.proofs.Merges.{before-merge, life-merge, merge-swap}
-use Rattle.tt_life_events.proofs.Parts.{AreNumbered, HoldOfEach, NoneBy, all-hold, left_by, part-left}
+use Rattle.tt_life_events.proofs.Parts.{AreNumbered, HoldOfEach, all-hold, left_by, part-left}
 
 -- ---- what a worker has is what its own list says
 

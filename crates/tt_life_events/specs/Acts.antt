@@ -6,7 +6,7 @@ use Rattle.tt_span.specs.Interval.{Interval}
 use Rattle.tt_span.specs.Drift.{Moment}
 use Rattle.tt_daemon.specs.Config.{Configuration}
 use Rattle.tt_publish.specs.declared.readings.FusedSpan.{FusedSpan}
-use Rattle.tt_stamp.specs.Stamping.{IsLegalRun, stamps_of as stamps_alone}
+use Rattle.tt_stamp.specs.Stamping.{stamps_of as stamps_alone}
 use Rattle.tt_stamp.specs.declared.stampings.Stamping.{Stamping}
 use Rattle.tt_world.specs.Bad.{accepted}
 use Rattle.tt_world.specs.Commits.{stamps_of}

@@ -1,6 +1,6 @@
 //! The law of the list of events of a life.
 
-ghost use Rattle.std.specs.Prelude.{ℕ, ◌<◌, ◌≤◌, ◌^◌, List, length};
+ghost use Rattle.std.specs.Prelude.{◌≡◌, ℕ, ◌<◌, ◌≤◌, ◌^◌, List, [], length};
 ghost use Rattle.tt_span.specs.Time.{max_time};
 ghost use Rattle.tt_daemon.specs.Config.{Configuration};
 ghost use Rattle.tt_stamp.specs.Stamping.{IsLegalRun};
@@ -10,7 +10,7 @@ ghost use Rattle.tt_world.specs.declared.events.Event.{Event};
 ghost use Rattle.tt_consistency.specs.Running.{Start};
 ghost use Rattle.tt_consistency.specs.Timeline.{BeginsLife, Timed, restarts_of};
 ghost use Rattle.tt_life_events.specs.Acts.{CanBe, IsRunOfAll, IsUnworked, LifeDone, entries_in};
-ghost use Rattle.tt_life_events.specs.Merging.{IsOneListWith};
+ghost use Rattle.tt_life_events.specs.Merging.{AreInOrder, IsMerge, IsOneList, IsOneListWith, stamps_in};
 ghost use Rattle.tt_life_events.specs.Threads.{AreThreads, ClockRises, daemon_list};
 
 /// The law of the list of events of a life.
@@ -46,4 +46,9 @@ pub fn event_list_laws()
 
     // A machine that only restarted has read and stamped nothing.
     ensures unworked { (config : Configuration) (m at clock lives : ℕ) (life : Life) → IsUnworked config (restarts_of m at clock lives) life }
+
+    // In a worked merge of two workers, who both read and stamp by turns, all that is assumed of two seats holds.
+    ensures worked { (one other history all : List LifeDone) × AreInOrder 20 one × AreInOrder 20 other × AreInOrder 20 history
+        × IsMerge (stamps_in one) (stamps_in other) history × IsOneList 20 one other history all
+        × (stamps_in one ≡ [] → ⊥) × (stamps_in other ≡ [] → ⊥) }
 {}

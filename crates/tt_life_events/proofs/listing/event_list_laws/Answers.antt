@@ -1,6 +1,7 @@
 use Rattle.tt_world.specs.Config.{config_at}
 use Rattle.tt_life_events.proofs.Threading.{threads-can, threads-list}
 use Rattle.tt_life_events.proofs.Following.{list-is_run, restarts-unworked}
+use Rattle.tt_life_events.proofs.WorkedMerge.{history-ordered, one-ordered, other-ordered, stamps-merged, worked-list, worked_all, worked_history, worked_one, worked_other}
 use Rattle.tt_life_events.proofs.listing.event_list_laws.Goals as goal
 
 pub returns : goal.returns
@@ -15,4 +16,5 @@ returns c = record {
             (can.0, can.1, list-is_run configs m number there base start begins unworked list.0 seats few can.0 can.1),
       );
   unworked = restarts-unworked;
+  worked = (worked_one, worked_other, worked_history, worked_all, one-ordered, other-ordered, history-ordered, stamps-merged, worked-list, (λ none. cc), (λ none. cc));
 }
