@@ -26,7 +26,7 @@ a ninth comes.
 - `/`: 200 and a page for people: what `ttd top` draws, as SVG, read again each two seconds; made once a status at most
 - `/metrics`: 200 and the status, of the type `text/plain; version=0.0.4; charset=utf-8`; 503 before the first round has ended
 - `/evidence`: 200 and the evidence of the last publication; 404 before the first
-- `/health`: 200 and `ok`, or 503 and a line for each reason (below); for ten minutes after a break also a line `last_life_broke`
+- `/health`: 200 and `ok`, or 503 and a line for each reason (below)
 - any other path gets 404, any other method 405 with `Allow: GET, HEAD`, what cannot become a request 400, and a longer head 431
 
 An answer has `Content-Length`, `Connection: close` and a `Content-Type`, which is `text/plain; charset=utf-8` except for `/metrics` and `/` (`text/html`). The \
