@@ -5,6 +5,7 @@ from contracts import functions_in
 from pages.source import Missing, arms_in, crates, enums_in, sentence, sources, table, words
 
 NAME = "refusals.md"
+FOLDER = "crates/tt_refusals/src"
 HEAD = """\
 # Refusals by number
 
@@ -96,24 +97,81 @@ def status_of(number, variants, faults, command, session):
     return ", ".join(sorted(found)) or "-"
 
 
-def page():
-    """The text of the page."""
+def rows_of_refusals():
+    """The row of each number, by number: its name in the program, what it says, what it means, and the status."""
     faults, known = Faults(), words("refusals")
     rows, others = faults.rows(), {int(number): row for number, row in words("refusals_elsewhere").items()}
     command, session = faults.below(COMMANDS), faults.below(SESSIONS)
-    lines = []
+    found = {}
     for number in sorted({*rows, *others}):
         if number in others:
-            says, status, meaning = (others[number][key] for key in ("says", "status", "meaning"))
+            name, says, status, meaning = (others[number][key] for key in ("name", "says", "status", "meaning"))
         else:
             variants = rows[number]
+            name = variants[0][1].name
             docs = list(dict.fromkeys(variant.doc for _, variant in variants if variant.doc))
             says, meaning = "; ".join(sentences_of(variants)) or "..", known.get(str(number)) or " ".join(map(sentence, docs))
             status = status_of(number, variants, faults, command, session)
         if not meaning:
             raise Missing(f"the refusal {number} has no meaning, in a comment or in words.toml")
-        lines.append([str(number), says, meaning, status])
+        found[number] = name, says, meaning, status
     for number in known:
         if int(number) not in rows:
             raise Missing(f"words.toml has the refusal {number}, which no fault has")
+    return found
+
+
+def page():
+    """The text of the page."""
+    lines = [[str(number), says, meaning, status] for number, (_, says, meaning, status) in rows_of_refusals().items()]
     return HEAD + table(["number", "what the program says", "what it means, and what to do", "status"], lines)
+
+
+def plain(number, text):
+    """A text of a row as a string of the program, without links."""
+    text = re.sub(r"\[([^][]*)\]\([^()]*\)", r"\1", text)
+    if '"' in text or "\\" in text or "\n" in text:
+        raise Missing(f"the refusal {number} has a text that a line of JSON cannot have: {text}")
+    return f'"{text}"'
+
+
+def tables():
+    """The rows as files of the program, by the names of their files: the numbers, and functions that give the texts of each hundred."""
+    rows = rows_of_refusals()
+    lines = ["//! The numbers of refusals, which `tools/reference` writes.", "",
+             "/// The numbers with which something is refused, the least first.", f"pub const NUMBERS: [u64; {len(rows)}] = [",
+             *(f"    {', '.join(map(str, some))}," for some in by_tens(list(rows))), "];", ""]
+    made = {f"{FOLDER}/numbers.rt": "\n".join(lines)}
+    for name, hundreds in (("low", range(15)), ("high", range(15, 100))):
+        lines = [f"//! The texts of the numbers {'below 1500' if name == 'low' else 'from 1500 on'}, which `tools/reference` writes.", "", "use crate::rows::Texts;"]
+        for hundred in hundreds:
+            some = {number: row for number, row in rows.items() if number // 100 == hundred}
+            if some:
+                lines += ["", *function_of(hundred, some)]
+        made[f"{FOLDER}/{name}.rt"] = "\n".join([*lines, ""])
+    return made
+
+
+def function_of(hundred, rows):
+    """The lines of the function that gives the texts of a hundred; of a number without a row it gives empty ones."""
+    yield f"/// The texts of the numbers from {hundred * 100} to {hundred * 100 + 99}; empty ones of a number that is none of a refusal."
+    yield f"pub(crate) fn texts_of_{hundred}(number: u64) -> Texts {{"
+    yield "    match number {"
+    for number, (name, says, meaning, _) in rows.items():
+        yield f"        {number} => Texts {{"
+        yield from (f"            {field}: {plain(number, text)}," for field, text in (("name", name), ("sentence", says), ("meaning", meaning)))
+        yield "        },"
+    yield "        _ => Texts::EMPTY,"
+    yield "    }"
+    yield "}"
+
+
+def by_tens(numbers):
+    """These numbers in lines, as the program's layout has them."""
+    line = []
+    for number in numbers:
+        if len(", ".join(map(str, [*line, number]))) + 5 > 99:
+            yield line
+            line = []
+        line.append(number)
+    yield line
