@@ -43,4 +43,5 @@ SENTENCES = {
 def strange_sentences(error: str) -> list[str]:
     """The lines of standard error whose sentence is not that of their number."""
     told = re.findall(r"^(ttd: refused (\d+): (.*))$", error, re.MULTILINE)
-    return [line for line, number, sentence in told if not re.fullmatch(SENTENCES.get(int(number), ".*"), sentence)]
+    return [line for line, number, sentence in told
+            if not re.fullmatch(f"(?:{SENTENCES.get(int(number), '.*')}) \\(ttd explain {number}\\)", sentence)]

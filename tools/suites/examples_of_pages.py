@@ -9,6 +9,9 @@ from suites.wiring_checks import BUCKETS, EVENTS, FIRST, LAST, OF_MASTERS, OF_SO
 # The metrics of a machine and of a master that the checks of `wiring` do not look at by a name.
 OTHERS = {f"truetime_{name}" for name in ("build_info", "master_build_info", "master_keys", "master_answers_total", "master_dropped_total")}
 
+# The names of some refusals, the first and the last among them.
+KNOWN = {1: "Memory", 504: "NoPoint", 1605: "WriteFailed", 1709: "WriteLasts"}
+
 
 def rows(page):
     """The cells of each row of a page's tables, without their heads, and without the signs of code."""
@@ -35,6 +38,26 @@ def page_of_commands(trial):
         head = said[:-len(told)]
         wanted = options_in(head, r"^ +(?:-\w, )?(--\S+(?: <\S+>)?|[<[]\S+)  +(.*)$") if name else []
         trial.equal(f"{name}: its options", options_in(part, r"^- `(.*?)`: (.*)$"), wanted)
+    trial.count(pages=1)
+
+
+@suite.case()
+def explained_refusals(trial):
+    """`explain` says of each number what the page says, and its name; of another word that no refusal has it."""
+    for number, says, meaning, _ in rows("refusals"):
+        ran = trial.command("explain", number)
+        said = re.sub(r"\[([^][]*)\]\([^()]*\)", r"\1", f"{says}\n{meaning}\n")
+        name, _, rest = ran.said.replace("`", "").partition("\n")
+        right = re.fullmatch(rf"{number} [A-Z]\w+", name) and rest == said and ran.status == 0
+        trial.check(f"explain {number}", right, f"{ran.said!r}, and {said!r} is wanted")
+    for number, name in KNOWN.items():
+        trial.equal(f"explain {number}", trial.command("explain", str(number)).said.split("\n")[0], f"{number} {name}")
+    for word in ("0", "2", "505", "1500", "99999999999999999999", "-1", "NoPoint", ""):
+        ran = trial.command("explain", word)
+        told = f"ttd: refused 1601: invalid arguments (ttd explain 1601)\nerror: no refusal has the number '{word}'\n"
+        trial.equal(f"explain {word}", (ran.answer, ran.error), (("refused 1601\n", 2), told))
+    trial.equal("explain alone", trial.command("explain").answer, ("refused 1601\n", 2))
+    trial.equal("explain of two", trial.command("explain", "1", "101").answer, ("refused 1601\n", 2))
     trial.count(pages=1)
 
 

@@ -352,7 +352,7 @@ def ask_that_cannot_print(trial):
         for words in (["ask", service.address, "now"], ["key"]):
             ran = subprocess.run(["sh", "-c", f'exec "$@" {redirection}', "sh", trial.program, *words], timeout=10,
                                  stdin=subprocess.DEVNULL, stderr=subprocess.PIPE, check=False)
-            if (ran.returncode, ran.stderr) != (4, b"ttd: refused 1605: writing failed\n"):
+            if (ran.returncode, ran.stderr) != (4, b"ttd: refused 1605: writing failed (ttd explain 1605)\n"):
                 yield f"{words[0]}: status {ran.returncode} with {redirection}, and {ran.stderr!r}"
 
 

@@ -48,6 +48,7 @@ CASES = [
     ("help", ["--help"], None),
     ("help of age", ["age", "--help"], None),
     ("bad words", ["age", "--sent", "x"], None),
+    ("explain", ["explain", "504"], None),
     ("no script", ["run"], "three.spans"),
 ]
 

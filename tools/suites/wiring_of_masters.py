@@ -159,7 +159,7 @@ def master_whose_address_is_taken(trial):
         address = f"127.0.0.1:{door.getsockname()[1]}"
         ran = trial.command("master", "--source", "1", "--listen", address, "--uncertainty", "5")
     trial.equal("option listen", ran.answer, ("refused 1501\n", 4))
-    line = f"ttd: refused 1501: no socket can be had at {address}: Address already in use (os error 98)"
+    line = f"ttd: refused 1501: no socket can be had at {address}: Address already in use (os error 98) (ttd explain 1501)"
     trial.check("option listen", line in ran.error.splitlines(), f"{ran.error!r} has no line {line!r}")
 
 

@@ -7,7 +7,7 @@
 //!
 //! - `arguments`: the arguments with which the program was started. `program`: what they ask for is done.
 //! - `commands`: what is said of a command that has ended. `services`: the services, and how each ended.
-//! - `making`: the service `key`.
+//! - `making`: the service `key`. `explaining`: the command `explain`.
 //! - `lines`: lines from a device. `asking`: the service `ask`. `showing`: how bytes of another process are shown.
 //! - `reading`: the service `read`. `serving`: the service `serve`. `checking`: `serve --check`. `places`: files that are one. `standard`: the descriptors 0 to 2.
 //! - `stacks`: the stack of the main thread.
@@ -18,6 +18,7 @@ mod arguments;
 mod asking;
 mod checking;
 mod commands;
+mod explaining;
 mod faults;
 mod lines;
 mod making;
@@ -32,6 +33,7 @@ mod standard;
 mod watching;
 
 use arguments::words_given;
+use explaining::{asked_number, explain_number};
 use program::{reject, run};
 use stacks::check_stack;
 use std::alloc::AllocError;
@@ -46,7 +48,10 @@ fn main(rt: HostRuntime) -> ExitCode {
     let mut output = Counted::new(rt.stdout());
     let status = match words_given(&rt) {
         Ok(words) => match check_stack(&rt, words.as_slice()) {
-            Ok(()) => run(&by_clock, words.as_slice(), &mut input, &mut output),
+            Ok(()) => match asked_number(words.as_slice()) {
+                Some(word) => explain_number(&rt, word, &mut output),
+                None => run(&by_clock, words.as_slice(), &mut input, &mut output),
+            },
             Err(fault) => {
                 explain(&rt, u64::from(fault.number()), &fault);
                 refuse(&mut output, fault.number(), fault.status())

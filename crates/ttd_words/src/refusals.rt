@@ -54,10 +54,10 @@ pub fn refuse<W: ByteWriter>(output: &mut W, number: u16, status: Status) -> Sta
     end_with(output, line.as_str(), status)
 }
 
-/// Says on standard error what a refusal with this number means. If that can't be written, nothing more is done. This
-/// takes no memory.
+/// Says on standard error what a refusal with this number means, and which command says more. If that can't be written,
+/// nothing more is done. This takes no memory.
 pub fn explain<H: Eprint, S: Display>(rt: &H, number: u64, sentence: &S) {
-    let _ = eprint!(rt; "ttd: refused {number}: {sentence}\n");
+    let _ = eprint!(rt; "ttd: refused {number}: {sentence} (ttd explain {number})\n");
 }
 
 /// Says on standard error that the output failed: 1605.
