@@ -153,12 +153,18 @@ def try_keeping(trial, name, kind, probe, files):
     wants(trial, f"{name}: {kind}: behind that", probe.say, "now", "25 25 stale")
     is_mapped = kind == "mapped"
     wanted = ({"gone": 0, "there": int(not is_mapped or name in KEEPS_DESCRIPTORS)}, {"gone": 0, "there": int(is_mapped)})
-    for _ in range(100):  # a collector may have to come
-        probe.say("rest")
-        kept = files.kept(probe.probe.pid)
-        if kept == wanted:
+    for epoch in 26, 27:  # on a busy host a thread may be held up in the old file, which C then closes with the next one
+        for _ in range(100):  # a collector may have to come
+            probe.say("rest")
+            kept = files.kept(probe.probe.pid)
+            if kept == wanted:
+                break
+            time.sleep(0.02)
+        if kept == wanted or epoch == 27 or is_mapped:
             break
-        time.sleep(0.02)
+        files.put(files.content(epoch))
+        time.sleep(LOOK_S)
+        wants(trial, f"{name}: {kind}: one more", probe.say, "now", f"{epoch} {epoch} stale")
     trial.equal(f"{name}: {kind}: descriptors and mappings", kept, wanted)
     wants(trial, name, probe.say, "close", "closed")
     wants(trial, name, probe.say, "now", "refused 1701")
