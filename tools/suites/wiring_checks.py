@@ -101,7 +101,7 @@ TIMES = {
     # publication; the sleep of a writer of records.
     "slow": SECOND, "hang": SECOND, "quick round": SECOND // 10, "records": SECOND,
     # A request over HTTP, and the answer to it; the looks for what is not written at the end.
-    "page": 2 * SECOND, "end look": SECOND // 500,
+    "page": 2 * SECOND, "page look": SECOND, "end look": SECOND // 500,
     # A connection of `ask`, a read of its reply, and its pause; a connection of `top`, and its pause.
     "ask link": 30 * SECOND, "ask read": SECOND // 10, "ask again": SECOND // 10, "top link": 5 * SECOND, "top again": SECOND // 2,
     # A packet that a master awaits, and its pause where none can be had; the reply of a server of its host.

@@ -96,10 +96,13 @@ def waits_of_machines(trial):
     waits_for(trial, notes, "send", "write")
 
     def of_pages():
-        return sum(words[0] == "poll" and TIMES["page"] * 3 // 4 <= int(words[1]) <= TIMES["page"] for words in notes.calls())
+        return sum(words[0] == "poll" and TIMES["page look"] * 3 // 4 <= int(words[1]) <= TIMES["page look"] for words in notes.calls())
     before = of_pages()
-    with socket.create_connection(("127.0.0.1", port), 5):
-        trial.check("time page", eventually(lambda: of_pages() > before), "no page waits as long for its client")
+    with socket.create_connection(("127.0.0.1", port), 10) as door:
+        began = time.monotonic_ns()
+        door.recv(1)
+        trial.between("time page", TIMES["page"] - SECOND // 10, time.monotonic_ns() - began, TIMES["page"] + SECOND)
+    trial.check("time page look", eventually(lambda: of_pages() > before), "the pages look at no status meanwhile")
     waits_for(trial, notes, "park", "records", others=[(70 * MILLISECOND, 70 * MILLISECOND)])
 
 
