@@ -334,7 +334,7 @@ WRONG = {
     "leaves the soft limit": ('ulimit -S -n "$(ulimit -H -n)"\n', "", wrong_ends, "SIGTERM", f"descriptors: ({SOFT}, {HARD})"),
     "leaves SIGXFSZ": ("trap '' XFSZ\n", "", wrong_ends, "SIGTERM", "ignored are ['SIGINT', 'SIGTERM']"),
     "leaves SIGTERM": ("ignored='INT TERM'", "ignored=INT", wrong_ends, "SIGTERM to the group", "ignored are ['SIGINT', 'SIGXFSZ']"),
-    "gives the other end away": ("3<&- 4>&- &", "3<&- &", wrong_ends, "the end of the script", "are left"),
+    "gives the other end away": ("<&3 3<&- 4>&- &", "<&3 3<&- &", wrong_ends, "the end of the script", "are left"),
     "sleeps as long each time": ("2 * last", "last", wrong_pauses, "", "status 4, [2]: (4, [1]"),
     "sleeps for hours": ("last < 30 ? 2 * last : 60", "2 * last", wrong_pauses, "", "status 4, [60]: (4, [64]"),
     "sleeps with each status": ('"$2 $status ${RUNTIME_DIRECTORY:+unit}" != "serve 4', '"$2 4 ${RUNTIME_DIRECTORY:+unit}" != "serve 4', wrong_pauses,
