@@ -185,7 +185,7 @@ class Fake(threading.Thread):
     def run(self):
         while not self.ended:
             packet, sender = self.door.recvfrom(2048)
-            if len(packet) != wire.REQUEST.size or packet[:4] != b"TTP2":
+            if len(packet) != wire.REQUEST.size or wire.poll_in(packet).magic != wire.MAGIC:
                 self.strange.append(packet)
                 continue
             self.came.append(time.monotonic())

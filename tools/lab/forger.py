@@ -11,7 +11,7 @@ import socket
 import time
 import typing
 
-from harness.wire import ANSWER_BYTES, NUMBER, REQUEST, TAG_BYTES, answer_to, poll_in, sealed
+from harness.wire import ANSWER_BYTES, NUMBER, REQUEST, TAG_BYTES, answer_to, poll_in, request_in, sealed
 from lab.hosts import DEVICE, Host, bytes_of, inside
 from lab.packets import Datagram, datagram_in, packet_of, spoiled
 from lab.router import FORKED, Child
@@ -98,19 +98,19 @@ class Forging:
         return back(poll, self.lie(poll))
 
     def with_any_tag(self, poll: Datagram) -> Datagram:
-        return back(poll, self.lie(poll) + number_in(poll) + self.chance.randbytes(TAG_BYTES))
+        return back(poll, self.lie(poll) + NUMBER.pack(number_in(poll)) + self.chance.randbytes(TAG_BYTES))
 
     def with_own_key(self, poll: Datagram) -> Datagram:
-        return back(poll, sealed(self.lie(poll), NUMBER.unpack(number_in(poll))[0], self.own))
+        return back(poll, sealed(self.lie(poll), number_in(poll), self.own))
 
     def foretold(self, poll: Datagram) -> Datagram:
-        return back(poll, sealed(self.lie(poll, self.chance.randrange(1, 50)), NUMBER.unpack(number_in(poll))[0], self.own))
+        return back(poll, sealed(self.lie(poll, self.chance.randrange(1, 50)), number_in(poll), self.own))
 
     def foretold_bare(self, poll: Datagram) -> Datagram:
         return back(poll, self.lie(poll, self.chance.randrange(1, 50)))
 
     def with_its_key(self, poll: Datagram) -> Datagram | None:
-        number, = NUMBER.unpack(number_in(poll))
+        number = number_in(poll)
         secret = (self.keys or {}).get(number)
         return secret and back(poll, sealed(self.lie(poll), number, secret))
 
@@ -158,9 +158,9 @@ def back(poll: Datagram, payload: bytes) -> Datagram:
     return Datagram(poll.target, poll.target_port, poll.source, poll.source_port, payload)
 
 
-def number_in(poll: Datagram) -> bytes:
-    """The number of the key of a poll, as it stands there."""
-    return poll.payload[REQUEST.size:REQUEST.size + NUMBER.size].ljust(NUMBER.size, b"\0")
+def number_in(poll: Datagram) -> int:
+    """The number of the key of a poll."""
+    return request_in(poll.payload)[1]
 
 
 CALLS = (Forging.bare, Forging.with_any_tag, Forging.with_own_key, Forging.foretold, Forging.foretold_bare, Forging.copied, Forging.moved,

@@ -11,6 +11,7 @@ from harness.processes import SECOND, truetime
 from harness.program import read_text, run
 from harness.trial import Trial
 from harness.trouble import Fake, Spoils, honest
+from harness.wire import poll_in
 from suites.wiring_checks import eventually
 
 MILLISECOND = SECOND // 1000
@@ -49,7 +50,7 @@ class Source(Fake):
         super().__init__(Source.do)
 
     def do(self, poll):
-        self.polls[poll[5]].append(time.time_ns())
+        self.polls[poll_in(poll).machine].append(time.time_ns())
         if not self.is_silent:
             self.send(self.answer_to(poll, ahead_ns=self.ahead))
 

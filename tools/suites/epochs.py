@@ -20,6 +20,7 @@ from harness.processes import truetime
 from harness.program import WARNINGS, compile_c, read, read_text, run, write
 from harness.suite import Suite
 from harness.trouble import NOBODY, Fake, honest
+from harness.wire import poll_in
 
 suite = Suite(__name__)
 MOST_EPOCHS = 2**64 - 1
@@ -34,7 +35,7 @@ class Keeper(Fake):
         super().__init__(Keeper.keep)
 
     def keep(self, poll):
-        self.greatest = max(self.greatest, int.from_bytes(poll[16:24], "big"))
+        self.greatest = max(self.greatest, poll_in(poll).epoch)
         honest(self, poll)
 
 

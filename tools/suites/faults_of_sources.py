@@ -11,7 +11,7 @@ from harness import trouble
 from harness.processes import free_port
 from harness.program import read_text
 from harness.trouble import Network, flooded
-from harness.wire import Poll
+from harness.wire import Poll, poll_in
 from suites.faults import suite
 
 IN_NETWORK = {"root": True, "programs": ("ip", "unshare", "nsenter")}
@@ -252,7 +252,7 @@ def poll_master(door, port, nonce):
     door.sendto(Poll(nonce=nonce).packet, ("127.0.0.1", port))
     while time.monotonic() < began + 0.2:
         with contextlib.suppress(TimeoutError):
-            if door.recv(64)[8:16] == nonce.to_bytes(8, "big"):
+            if poll_in(door.recv(64)).nonce == nonce:
                 return time.monotonic() - began
     return None
 

@@ -12,7 +12,7 @@ from harness.processes import SECOND, Process, fields_of, truetime
 from harness.program import read_text, run
 from harness.trial import Trial
 from harness.trouble import Fake, Spoils, honest
-from harness.wire import REQUEST, answer_to, poll_in, sealed
+from harness.wire import answer_to, poll_in, request_in, sealed
 
 # The names. One that changes is changed here; that of a setting or of an event also where a scenario gives or awaits it.
 
@@ -289,13 +289,13 @@ class Sealed(Scripted):
     def run(self):
         while not self.ended:
             packet, sender = self.door.recvfrom(2048)
-            number = int.from_bytes(packet[-20:-16], "big")
-            if len(packet) != REQUEST.size + 20 or packet != sealed(packet[:-20], number, self.keys.get(number, b"")):
+            poll, number = request_in(packet)
+            if packet != sealed(poll, number, self.keys.get(number, b"")):
                 self.strange.append(packet)
                 continue
             self.machine = sender
             self.numbers.append(number)
-            self.act(self, packet[:-20])
+            self.act(self, poll)
 
     def send(self, packet):
         """Sends it sealed under the key of the last poll."""

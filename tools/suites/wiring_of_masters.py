@@ -9,10 +9,10 @@ import time
 from harness.metrics import faults_in
 from harness.processes import SECOND, Process, free_port
 from harness.trouble import Spoils
-from harness.wire import ANSWER_BYTES, ANSWERS, REQUEST, SPAN, Poll, ends_in
+from harness.wire import ANSWER_BYTES, ANSWERS, REQUEST, SPAN, Poll, ends_in, first_version, sealed
 from harness.program import WARNINGS, compile_c, read_text, write
 from suites.wiring import suite
-from suites.wiring_checks import eventually, put_keys, sealed
+from suites.wiring_checks import eventually, put_keys
 
 # The source, the offset and the uncertainty.
 OPTIONS = [(0, 0, 1_000), (3, 5 * SECOND, 123_456_789), (15, -7 * SECOND, 0)]
@@ -94,11 +94,6 @@ def acts_of_masters(trial):
         last = packet or last
 
 
-def first_format(packet):
-    """A poll or an answer of TTP2 as TTP1 has it: without the epoch."""
-    return b"TTP1" + packet[4:16] + packet[24:]
-
-
 @suite.case()
 def formats_of_polls(trial):
     """Each poll is answered in its own format, by a master and by one with acts. What is no poll takes no act, and the last act goes on."""
@@ -120,10 +115,10 @@ def formats_of_polls(trial):
             return packet, is_near and packet == change(one.head() + SPAN.pack(low, high))
         return None, False
 
-    for change in (first_format, bytes, first_format):
+    for change in (first_version, bytes, first_version):
         packet, is_right = poll(asked, change)
         trial.check("option source", is_right, f"{packet and packet.hex(' ', 8)} to a poll in the format of {change.__name__}")
-    wanted = [(first_format, True), (bytes, True), (first_format, None), (bytes, GARBAGE), (first_format, GARBAGE[:32])]
+    wanted = [(first_version, True), (bytes, True), (first_version, None), (bytes, GARBAGE), (first_version, GARBAGE[:32])]
     for number, (change, answer) in enumerate(wanted):
         acting.door.send(b"not a message")
         packet, is_right = poll(acting, change, 0.3 if answer is None else 5)
@@ -246,7 +241,8 @@ def is_answered(asked, number, key, seconds=0.3):
     with contextlib.suppress(OSError):
         asked.door.send(sealed(poll, number, key))
         packet = asked.door.recv(100)
-        return packet == sealed(packet[:40], number, key) and is_span(asked, packet[:40], before, time.time_ns(), 0, 5)
+        answer = packet[:ANSWER_BYTES]
+        return packet == sealed(answer, number, key) and is_span(asked, answer, before, time.time_ns(), 0, 5)
     return False
 
 
