@@ -17,7 +17,6 @@ import re
 import shutil
 import signal
 import socket
-import struct
 import subprocess
 import sys
 import tempfile
@@ -26,16 +25,13 @@ import time
 from concurrent.futures import ThreadPoolExecutor
 
 from harness.program import WARNINGS, in_top, run, write
+from harness.shared_file import (FILE_BYTES, INDEX_AT, MONOTONIC, NO_LIMIT, RAW, SLOT_BYTES, WORDS, boot_id, file_of, file_of_version_1,
+                                 file_of_version_2, index_number, is_odd, of_another_boot)
 from harness.suite import Suite
 
 suite = Suite(__name__)
 CLIENTS, GO = in_top("clients"), in_top("clients/go/truetime")
 MAX, SECOND = 4_000_000_000_000_000_000, 1_000_000_000
-
-
-NO_LIMIT = 2**64 - 1
-# The clocks of a file, by their numbers in Linux: CLOCK_MONOTONIC and CLOCK_MONOTONIC_RAW.
-MONOTONIC, RAW = 1, 4
 MAX_DRIFT = 100_000
 
 
@@ -228,61 +224,9 @@ def slots(seed, number):
         yield 0 if chance.random() < 0.02 else index, slot, (shown[1], shown[0])
 
 
-def index_of(count):
-    digits = [count >> 8 * place & 0xFF for place in range(8)] + [0]
-    return bytes((digits[place] - digits[place + 1]) % 256 for place in range(8))
-
-
-def index_number(count):
-    """The same as a number."""
-    return int.from_bytes(index_of(count), "little")
-
-
-SLOT_BYTES, FILE_BYTES = 128, 320
-
-
-def slot_of(count, publication, second=(0,) * 6):
-    """The bytes of a slot, with a second base: its clock, the ends of its span, its drift, and until when it is fresh, and usable."""
-    clock, lo, hi, until, usable, epoch, number, drift = publication
-    return index_of(count) + struct.pack("<15Q", clock, lo, hi, until, epoch, number, drift, usable, *second, 0)
-
-
-def second_of(publication):
-    """A second base with the same numbers."""
-    clock, lo, hi, until, usable, _, _, drift = publication
-    return clock, lo, hi, drift, until, usable
-
-
-def file_of(count, publication, boot, clock=RAW, second=None, **changes):
-    """The bytes of a file by this clock, whose last publication this is; `changes` puts other bytes at a place. A file by CLOCK_MONOTONIC_RAW has a
-    second base with the same numbers, where nothing else is said."""
-    each = [bytes(SLOT_BYTES), bytes(SLOT_BYTES)]
-    if count > 0:
-        second = second or (second_of(publication) if clock == RAW else (0,) * 6)
-        each[count % 2] = slot_of(count, publication, second)
-    whole = bytearray(b"TTS3" + struct.pack("<IQ", FILE_BYTES, clock) + index_of(count) + boot + bytes(4) + each[0] + each[1])
-    for place, byte in changes.get("at", {}).items():
-        whole[place] = byte
-    return bytes(whole[: changes.get("length", len(whole))]) + changes.get("more", b"")
-
-
-def file_of_version_1(boot):
-    """A file as version 1 of the format has it."""
-    index = index_of(1)
-    return b"TTS1" + struct.pack("<IQ", 192, 1) + index + boot + bytes(4 + 64) + index + struct.pack("<7Q", 10, 20, 30, 40, 7, 1, 200)
-
-
-def file_of_version_2(boot):
-    """A file as version 2 of the format has it."""
-    index = index_of(1)
-    return (b"TTS2" + struct.pack("<IQ", FILE_BYTES, 1) + index + boot + bytes(4 + SLOT_BYTES)
-            + index + struct.pack("<8Q", 10, 20, 30, 40, 7, 1, 200, NO_LIMIT) + bytes(56))
-
-
 def files():
     """Files, how their modes are, and what a reader says of them, or what one says that knows CLOCK_MONOTONIC_RAW, and one that does not."""
-    with open("/proc/sys/kernel/random/boot_id", "rb") as file:
-        boot = file.read(36)
+    boot = boot_id()
     good, second = (10, 20, 30, 2**64 - 1, 2**64 - 3, 7, 2**64 - 2, 100_000), (11, 21, 31, 99_999, 2**64 - 5, 2**64 - 7)
     said = "published 10 20 30 18446744073709551615 18446744073709551613 7 18446744073709551614 100000"
     either = said, "published 11 21 31 18446744073709551611 18446744073709551609 7 18446744073709551614 99999"
@@ -311,7 +255,7 @@ def files():
         yield f"clock {clock}", file_of(1, good, boot, clock), 0o644, "refused 1702"
     for clock in (MONOTONIC, RAW):
         yield f"clock {clock}, and more", file_of(1, good, boot, clock, at={15: 1}), 0o644, "refused 1702"
-    yield "another boot", file_of(1, good, bytes([boot[0] ^ 1]) + boot[1:]), 0o644, "refused 1702"
+    yield "another boot", of_another_boot(file_of(1, good, boot)), 0o644, "refused 1702"
     yield "no zeros behind the boot", file_of(1, good, boot, at={63: 1}), 0o644, "refused 1702"
     yield "too short", file_of(1, good, boot, length=FILE_BYTES - 1), 0o644, "refused 1702"
     yield "too long", file_of(1, good, boot, more=b"\0"), 0o644, "refused 1702"
@@ -932,13 +876,13 @@ def try_slots(trial, name, reader, path, boot):
         os.chmod(path, 0o644)
         with open(path, "r+b", buffering=0) as file:
             for way in ("map", "open"):
-                os.pwrite(file.fileno(), bytes(8), 16)
+                os.pwrite(file.fileno(), bytes(8), INDEX_AT)
                 trial.equal(f"{name}: {way}", reader.say(f"{way} {path}"), "refused 801")
                 for index, slot, shown, answer in by_hand + by_chance:
                     # The other slot has what no daemon writes.
-                    current, other = struct.pack("<16Q", *slot), b"\xff" * SLOT_BYTES
-                    is_odd = sum(byte & 1 for byte in index.to_bytes(8, "little")) % 2
-                    os.pwrite(file.fileno(), index.to_bytes(8, "little") + boot + bytes(4) + (other + current if is_odd else current + other), 16)
+                    current, other = WORDS.pack(*slot), b"\xff" * SLOT_BYTES
+                    whole = index.to_bytes(8, "little") + boot + bytes(4) + (other + current if is_odd(index) else current + other)
+                    os.pwrite(file.fileno(), whole, INDEX_AT)
                     said = reader.say(f"at {shown[0]} {shown[1]}")
                     trial.check(name, said == answer, f"{way}, clock {clock}, index {index}, {slot} at {shown}: {said!r} in place of {answer!r}")
                     tried += 1
@@ -963,8 +907,7 @@ def readers(trial):
         slot = [changed.get(place, word) for place, word in enumerate(GOOD_SLOT)]
         model = [said_of_slot(clock, 1, slot, is_known, {MONOTONIC: shown[0], RAW: shown[1]}) for is_known in (True, False)]
         trial.check("by hand", answers == model, f"{clock} {changed} {shown}: {answers} by hand, and {model}")
-    with open("/proc/sys/kernel/random/boot_id", "rb") as file:
-        boot = file.read(36)
+    boot = boot_id()
     for name, words in trial.shared:
         before = len(trial.result.wrong)
         answers = run([*words, "vectors"], lines.encode(), 300).said.splitlines()

@@ -17,8 +17,9 @@ import typing
 from xml.etree import ElementTree
 
 from harness.program import WARNINGS, in_top, read, read_text, run, write
+from harness.shared_file import MONOTONIC, RAW, boot_id, file_of
 from harness.suite import Suite, wrong_in
-from suites.clients import MONOTONIC, RAW, clock_shows, file_of, go_in, has_go, has_tokio, registry_for_cargo
+from suites.clients import clock_shows, go_in, has_go, has_tokio, registry_for_cargo
 
 suite = Suite(__name__, at_once=4, quick=False, beside_s=13)
 CLIENTS = in_top("clients")
@@ -108,8 +109,7 @@ class StandIn(socketserver.ThreadingTCPServer):
         self.came, self.file = [], os.path.join(room, "time")
         self.clocks, always = {clock: clock_shows(clock) for clock in (RAW, MONOTONIC)}, 2**64 - 1
         second = (self.clocks[MONOTONIC], LO, LO + WIDTH, 0, always, always)
-        with open("/proc/sys/kernel/random/boot_id", "rb") as file:
-            write(self.file, file_of(1, (self.clocks[RAW], LO, LO + WIDTH, always, always, 7, 1, 0), file.read(36), RAW, second))
+        write(self.file, file_of(1, (self.clocks[RAW], LO, LO + WIDTH, always, always, 7, 1, 0), boot_id(), RAW, second))
         os.chmod(self.file, 0o644)
         threading.Thread(target=self.serve_forever, args=(0.02,), daemon=True).start()
 

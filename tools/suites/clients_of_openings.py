@@ -25,7 +25,8 @@ import threading
 import time
 from concurrent.futures import ThreadPoolExecutor
 
-from suites.clients import Reader, file_of, file_of_version_1, session_probes, suite
+from harness.shared_file import RAW, boot_id, empty_file, file_of, file_of_version_1, of_another_boot
+from suites.clients import Reader, session_probes, suite
 
 COUNT, QUESTIONS = 100, 3
 # How many of what connects anew with each question.
@@ -88,13 +89,12 @@ class Listening(socketserver.ThreadingTCPServer):
 
 def files_in(room):
     """Files by what they are: the first one is good."""
-    with open("/proc/sys/kernel/random/boot_id", "rb") as file:
-        boot = file.read(36)
+    boot = boot_id()
     always = 2**64 - 1
     good = file_of(1, (0, 10**9, 10**9 + 10, always, always, 7, 1, 0), boot)
-    for name, content, mode in [("good", good, 0o644), ("nothing published", file_of(0, None, boot), 0o644),
+    for name, content, mode in [("good", good, 0o644), ("nothing published", empty_file(boot, RAW), 0o644),
                                 ("version 1", file_of_version_1(boot), 0o644), ("too short", good[:-1], 0o644), ("empty", b"", 0o644),
-                                ("writable by others", good, 0o646), ("another boot", good[:24] + bytes([good[24] ^ 1]) + good[25:], 0o644)]:
+                                ("writable by others", good, 0o646), ("another boot", of_another_boot(good), 0o644)]:
         path = os.path.join(room, name.replace(" ", "-"))
         with open(path, "wb") as file:
             file.write(content)

@@ -28,7 +28,8 @@ import re
 import time
 from concurrent.futures import ThreadPoolExecutor
 
-from suites.clients import MONOTONIC, NO_LIMIT, RAW, Reader, clock_shows, file_of, suite
+from harness.shared_file import MONOTONIC, NO_LIMIT, RAW, boot_id, file_of
+from suites.clients import Reader, clock_shows, suite
 from suites.clients_of_openings import KEEPS_DESCRIPTORS
 from suites.clients_of_waits import wants
 
@@ -43,8 +44,7 @@ class Files:
     def __init__(self, room, name):
         os.mkdir(os.path.join(room, name))
         self.path = os.path.join(room, name, "time")
-        with open("/proc/sys/kernel/random/boot_id", "rb") as file:
-            self.boot = file.read(36)
+        self.boot = boot_id()
 
     def content(self, epoch, valid_for_s=0, usable_until=NO_LIMIT):
         """A file of this epoch, which is late after so long."""

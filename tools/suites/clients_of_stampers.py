@@ -33,8 +33,8 @@ import threading
 import time
 
 from harness.program import run
-from suites.clients import (CLIENTS, MAX, MONOTONIC, NO_LIMIT, RAW, SLOT_BYTES, Reader, build_c, clock_shows, file_of, index_of, java_sources,
-                            knows_raw, slot_of, suite)
+from harness.shared_file import INDEX_AT, MONOTONIC, NO_LIMIT, RAW, boot_id, empty_file, index_of, slot_at, slot_of
+from suites.clients import CLIENTS, MAX, Reader, build_c, clock_shows, java_sources, knows_raw, suite
 
 AHEAD, SECOND = 10_000_000_000, 1_000_000_000
 
@@ -202,8 +202,7 @@ class Shared:
 
     def __init__(self, path, name):
         self.reads = RAW if knows_raw(name) else MONOTONIC
-        with open("/proc/sys/kernel/random/boot_id", "rb") as file:
-            self.nothing = file_of(0, None, file.read(36))
+        self.nothing = empty_file(boot_id(), RAW)
         with contextlib.suppress(FileNotFoundError):
             os.remove(path)
         self.file, self.count = os.open(path, os.O_RDWR | os.O_CREAT | os.O_EXCL, 0o644), 0
@@ -237,15 +236,18 @@ class Shared:
         span = (clock, middle - early, middle + late)
         first, second = (span, self.OTHER) if self.reads == RAW else (self.OTHER, span)
         slot = slot_of(self.count, (*first, until, usable, epoch, self.count, drift), (*second, drift, until, usable))
-        os.pwrite(self.file, slot, 64 + SLOT_BYTES * (self.count % 2))
-        os.pwrite(self.file, index_of(self.count), 16)
+        self.put(slot)
+
+    def put(self, slot):
+        """Writes the slot of the last publication, and then the index."""
+        os.pwrite(self.file, slot, slot_at(self.count))
+        os.pwrite(self.file, index_of(self.count), INDEX_AT)
 
     def withdraw(self):
         """Has the file give nothing by CLOCK_MONOTONIC, until it is published again."""
         self.count += 1
         slot = slot_of(self.count, (*self.OTHER, NO_LIMIT, NO_LIMIT, 7, self.count, 0))
-        os.pwrite(self.file, slot, 64 + SLOT_BYTES * (self.count % 2))
-        os.pwrite(self.file, index_of(self.count), 16)
+        self.put(slot)
 
 
 def try_refusals(said, shared, path):

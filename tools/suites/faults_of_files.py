@@ -4,7 +4,6 @@ import json
 import os
 import shutil
 import socket
-import struct
 import subprocess
 import time
 from concurrent.futures import ThreadPoolExecutor
@@ -12,6 +11,7 @@ from concurrent.futures import ThreadPoolExecutor
 from harness import trouble
 from harness.processes import free_port, truetime
 from harness.program import in_top, read, run, write
+from harness.shared_file import FILE_BYTES, MONOTONIC, RAW, boot_id, empty_file
 from harness.trouble import as_nobody, full_listener, full_pipe, hold_lock
 from suites.faults import suite
 
@@ -422,18 +422,12 @@ def shared_file_is_shortened(trial):
     yield from node.answers()
 
 
-def shared_by(version, clock, length=320):
-    """A shared file of this boot, version and clock, in which nothing was published."""
-    with open("/proc/sys/kernel/random/boot_id", "rb") as file:
-        head = b"TTS" + version + struct.pack("<IQQ", length, clock, 0) + file.read(36)
-    return head.ljust(length, b"\0")
-
-
 @suite.case()
 def shared_file_of_another_version(trial):
     """It is replaced, as one by another clock is, and stays as it is for who has it open."""
-    node = trial.node(trial.masters(3))
-    for what, content in [("version 1", shared_by(b"1", 1, 192)), ("version 2", shared_by(b"2", 1)), ("another clock", shared_by(b"3", 1))]:
+    node, boot = trial.node(trial.masters(3)), boot_id()
+    for what, content in [("version 1", empty_file(boot, MONOTONIC, b"TTS1", 192)), ("version 2", empty_file(boot, MONOTONIC, b"TTS2")),
+                          ("another clock", empty_file(boot, MONOTONIC))]:
         write(node.path("shared"), content)
         with open(node.path("shared"), "rb") as kept:
             node.run()
@@ -656,7 +650,7 @@ def shared_file_prepared_by_another(trial):
     folder = os.path.join(trial.room, "open")
     os.mkdir(folder)
     os.chmod(folder, 0o777)
-    path, content = os.path.join(folder, "shared"), shared_by(b"3", 4)
+    path, content = os.path.join(folder, "shared"), empty_file(boot_id(), RAW)
     with as_nobody():
         write(path, content)
     kept = os.open(path, os.O_RDONLY)
@@ -664,7 +658,7 @@ def shared_file_prepared_by_another(trial):
     node.run()
     node.wait_until_ready()
     time.sleep(0.5)
-    if os.pread(kept, 320, 0) != content:
+    if os.pread(kept, FILE_BYTES, 0) != content:
         yield "the file of another user was written"
     sharing = (node.status_or_none() or {}).get("truetime_sharing")
     if sharing != (os.stat(path).st_uid == 0):

@@ -18,13 +18,13 @@ import contextlib
 import os
 import signal
 import socket
-import struct
 import subprocess
 import time
 from concurrent.futures import ProcessPoolExecutor, ThreadPoolExecutor
 
 from harness.processes import SECOND, WORKERS, raw_ns, truetime
 from harness.program import in_top, read, run as run_once
+from harness.shared_file import index_in, slots_in
 from harness.suite import Suite
 from harness.trouble import reset
 from harness.users import come_in_turn, latest_of, never_read, places_for, reply_to, say_nothing, send_slowly, use
@@ -38,8 +38,6 @@ LOOPBACK = "0100007F"
 BY_MONOTONIC = "Java", "Go"
 #: How many fields of a publication readers show: all but its clock.
 SHOWN = 8
-#: A slot, with its index and both bases, and where the slots and the index are.
-SLOT, SLOTS, INDEX = struct.Struct("<8s15Q"), (64, 192), slice(16, 24)
 
 
 # Readers of the shared file, and the commands that read.
@@ -81,11 +79,10 @@ def by_second_base(path):
     """The last publication of a file, as readers by CLOCK_MONOTONIC have it."""
     while True:
         whole = read(path)
-        slots = [SLOT.unpack_from(whole, at) for at in SLOTS]
-        for index, *numbers in slots:
-            if index == whole[INDEX] == read(path)[INDEX]:
-                _, _, _, _, epoch, number, _, _, clock, lo, hi, drift, valid, usable, _ = numbers
-                return truetime.Publication(clock, lo, hi, valid, usable, epoch, number, drift)
+        for slot in slots_in(whole):
+            if slot.index == index_in(whole) == index_in(read(path)):
+                return truetime.Publication(slot.second_clock, slot.second_lo, slot.second_hi, slot.second_until, slot.second_usable, slot.epoch,
+                                            slot.number, slot.second_drift)
 
 
 def is_publication(said, published, *_):

@@ -6,11 +6,11 @@ import resource
 import select
 import shutil
 import socket
-import struct
 import time
 
 from harness.processes import SECOND, fields_of
 from harness.program import read, write
+from harness.shared_file import of_another_boot, slots_in
 from harness.trouble import Spoils, disrupt, full_pipe, hold_lock, honest, late, page, silent
 from suites.breaks_world import is_valid
 from suites.wiring import suite
@@ -90,10 +90,9 @@ def shared_files_that_cannot_be_used(trial):
     published(node)
     with open(node.path("shared"), "rb") as file:
         whole = file.read()
-    other_boot = whole[:24] + bytes([whole[24] ^ 1]) + whole[25:]
     for content, says in ((None, "it can't be opened or read: No such file or directory"), (whole[:-1], "it has not the 320 bytes"),
                           (whole + b"0", "it has not the 320 bytes"), (b"TTS1" + whole[4:], "it does not begin as a shared file does"),
-                          (other_boot, "it is of another boot"), (whole[:8] + b"\2" + whole[9:], "it does not begin as a shared file does")):
+                          (of_another_boot(whole), "it is of another boot"), (whole[:8] + b"\2" + whole[9:], "it does not begin as a shared file does")):
         path = os.path.join(trial.room, "other")
         if content is not None:
             write(path, content)
@@ -208,8 +207,7 @@ def starts_after_breaks(trial):
 
 def withdrawn_in(node):
     """The epoch and the number of each publication in its shared file by which nothing is published any more."""
-    slots = [struct.unpack_from("<9Q", read(node.path("shared")), at) for at in (64, 192)]
-    return [(slot[5], slot[6]) for slot in slots if slot[0] and slot[8] == 0]
+    return [(slot.epoch, slot.number) for slot in slots_in(read(node.path("shared"))) if slot.index and slot.usable == 0]
 
 
 @suite.case()
