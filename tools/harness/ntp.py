@@ -99,6 +99,16 @@ def reply_in(packet: bytes, origin: int, before: int, after: int) -> Reply:
     return Reply(first >> 6, stratum, delay, dispersion, precision, reference, parts_of(shown), before, after)
 
 
+def request_of(nonce: int) -> bytes:
+    """A client's request, which says nothing but this in the place of its own time."""
+    return PACKET.pack(4 << 3 | CLIENT, 0, 0, 0, 0, 0, 0, 0, 0, 0, nonce)
+
+
+def nonce_in(request: bytes) -> int:
+    """What a request has in the place of its own time."""
+    return PACKET.unpack(request[:PACKET.size])[-1]
+
+
 def ask(address: str, port: int = 123, seconds: float = 1.0) -> Reply:
     """Asks a server once."""
     origin = secrets.randbits(64)
@@ -106,7 +116,7 @@ def ask(address: str, port: int = 123, seconds: float = 1.0) -> Reply:
         door.settimeout(seconds)
         door.connect((address, port))
         before = time.time_ns()
-        door.send(PACKET.pack(4 << 3 | CLIENT, 0, 0, 0, 0, 0, 0, 0, 0, 0, origin))
+        door.send(request_of(origin))
         packet = door.recv(1024)
         return reply_in(packet, origin, before, time.time_ns())
 
@@ -121,7 +131,7 @@ class Says:
     precision: int = SHORTEST
     reference: int = 0x0A000001
     ahead_ns: int = 0
-    #: Fields that stand in the reply whatever they should be: `origin`, `came`, `shown`, `set`, `version`, `mode`.
+    #: Fields that stand in the reply whatever they should be: `origin`, `came`, `shown`, `set`, `poll`, `version`, `mode`.
     changed: dict[str, int] = dataclasses.field(default_factory=dict)
     #: Nothing is said, or this in place of a reply, made of the request.
     silent: bool = False
@@ -187,9 +197,9 @@ class FakeServer(threading.Thread):
             return b""
         if says.packet:
             return says.packet(request)
-        origin = PACKET.unpack(request[:PACKET.size])[-1]
         now = stamp_of(time.time_ns() + says.ahead_ns)
-        fields = {"version": 4, "mode": SERVER, "set": (now - 4 * LONG) % (1 << 64), "origin": origin, "came": now, "shown": now, **says.changed}
-        packet = PACKET.pack(says.leap << 6 | fields["version"] << 3 | fields["mode"], says.stratum, 6, says.precision, says.delay, says.dispersion,
-                             says.reference, fields["set"], fields["origin"], fields["came"], fields["shown"])
+        fields = {"version": 4, "mode": SERVER, "poll": 6, "set": (now - 4 * LONG) % (1 << 64), "origin": nonce_in(request), "came": now, "shown": now,
+                  **says.changed}
+        packet = PACKET.pack(says.leap << 6 | fields["version"] << 3 | fields["mode"], says.stratum, fields["poll"], says.precision, says.delay,
+                             says.dispersion, says.reference, fields["set"], fields["origin"], fields["came"], fields["shown"])
         return packet + (says.key.code(packet) if says.key else b"")

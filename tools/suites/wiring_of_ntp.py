@@ -8,7 +8,7 @@ import threading
 import time
 
 from harness.metrics import faults_in, numbers_in
-from harness.ntp import PACKET, SHORT, FakeServer, Key, Says, kiss, stamp_of
+from harness.ntp import PACKET, SHORT, FakeServer, Key, Says, kiss, nonce_in, request_of, stamp_of
 from harness.processes import SECOND
 from harness.program import read_text, write
 from harness.trouble import Network, Spoils
@@ -150,11 +150,6 @@ def servers_of_masters(trial):
     trial.equal("option ntp", ran.answer, ("refused 1829\n", 4))
 
 
-def nonce_of(request):
-    """The nonce of a request."""
-    return PACKET.unpack(request[:PACKET.size])[-1]
-
-
 @suite.case()
 def nonces_of_masters(trial):
     """Each request has 64 random bits of its own. Who saw one can't reply to the next: what lies in the socket before a request is no reply to it,
@@ -162,14 +157,14 @@ def nonces_of_masters(trial):
     server, = servers_of(trial, Says())
     over = Over(trial, [server], every=["500ms"]).polled(trial)
     eventually(lambda: len(server.requests) > 4, SOON_S)
-    nonces = [nonce_of(request) for request in server.requests]
+    nonces = [nonce_in(request) for request in server.requests]
     near = [(one, other) for place, one in enumerate(nonces) for other in nonces[:place] if abs(one - other) < 2**32]
     trial.check("option ntp", len(nonces) > 4 and not near and 0 not in nonces, f"the nonces {nonces} are near to one another")
     # By chance one of 64 bits is the same in 40 requests once in 8,000 million times.
     other, = servers_of(trial, Says())
     quick = Over(trial, [other])
     eventually(lambda: quick.poll(0.1) and len(other.requests) >= 40, SOON_S)
-    nonces, zeros, ones = [nonce_of(request) for request in other.requests], 2**64 - 1, 0
+    nonces, zeros, ones = [nonce_in(request) for request in other.requests], 2**64 - 1, 0
     for nonce in nonces:
         zeros, ones = zeros & nonce, ones | nonce
     trial.equal("option ntp", (len(nonces) >= 40, zeros, ones), (True, 0, 2**64 - 1))
@@ -178,7 +173,7 @@ def nonces_of_masters(trial):
         eventually(lambda asked=asked: len(server.requests) > asked, SOON_S)
         seen = server.requests[-1]
         for guess in range(-1, 4):
-            request = seen[:40] + ((nonce_of(seen) + guess) % 2**64).to_bytes(8, "big")
+            request = request_of((nonce_in(seen) + guess) % 2**64)
             server.door.sendto(FakeServer.reply_to(request, lie), server.client)
         replies = over.numbers()["server_replies_total"][0]
         over.comes_to(trial, server_silence=[0])
