@@ -6,8 +6,59 @@ import os
 import random
 import socket
 import time
+import typing
 
 from harness.processes import truetime
+
+
+class Reading(typing.NamedTuple):
+    """What a reader gave, and two looks at a clock around it, since 1970. It has to hold a time between these."""
+    before: int
+    after: int
+    now: typing.Any
+
+    @property
+    def earliest(self):
+        return self.now.earliest_ns
+
+    @property
+    def latest(self):
+        return self.now.latest_ns
+
+    @property
+    def is_wrong(self):
+        return self.latest < self.before or self.earliest > self.after
+
+    def __str__(self):
+        return f"the reading {self.earliest} {self.latest} between {self.before} and {self.after}"
+
+
+class Commit(typing.NamedTuple):
+    """The stamp of a commit, and two looks at the real-time clock around it, since 1970. It has to lie between these."""
+    began: int
+    ended: int
+    stamp: int
+
+    @property
+    def is_wrong(self):
+        return not self.began <= self.stamp < self.ended
+
+    def __str__(self):
+        return f"the stamp {self.stamp} of a commit between {self.began} and {self.ended}"
+
+
+def reading_of(reader, clock=time.time_ns):
+    """A reading by this clock."""
+    before = clock()
+    now = reader.now()
+    return Reading(before, clock(), now)
+
+
+def commit_of(session):
+    """A commit, which waits."""
+    began = time.time_ns()
+    stamp = session.commit()
+    return Commit(began, time.time_ns(), stamp)
 
 
 @dataclasses.dataclass
@@ -17,27 +68,33 @@ class Seen:
     wrong: list = dataclasses.field(default_factory=list)
     lost: int = 0
     refused: collections.Counter = dataclasses.field(default_factory=collections.Counter)
-    #: The machine of each commit, when it began and ended by the monotonic clock, and its stamp.
+    #: The machine of each commit, when it began and ended, and its stamp.
     commits: list = dataclasses.field(default_factory=list)
 
     def read(self, reader):
-        """A reading, which has to hold a time between two looks at the real-time clock around it."""
-        before = time.time_ns()
-        now = reader.now()
-        after = time.time_ns()
+        """A reading, which has to be right."""
+        got = reading_of(reader)
         self.readings += 1
-        if now.latest_ns < before or now.earliest_ns > after:
-            self.wrong.append(f"the reading {now.earliest_ns} {now.latest_ns} between {before} and {after}")
-        return now
+        self.wrong += [str(got)] if got.is_wrong else []
+        return got.now
 
     def commit(self, session, machine):
-        """A commit, whose stamp has to lie between two looks at the real-time clock around it."""
-        began, before = time.monotonic_ns(), time.time_ns()
-        stamp = session.commit()
-        after, ended = time.time_ns(), time.monotonic_ns()
-        self.commits.append((machine, began, ended, stamp))
-        if not before <= stamp < after:
-            self.wrong.append(f"the stamp {stamp} of a commit between {before} and {after}")
+        """A commit, whose stamp has to be right."""
+        made = commit_of(session)
+        self.commits.append((machine, *made))
+        self.wrong += [str(made)] if made.is_wrong else []
+
+    @contextlib.contextmanager
+    def failing(self, address, timeout_s):
+        """Keeps how calls fail: by a refusal, without a reply, which is wrong, or since the session is lost."""
+        try:
+            yield
+        except truetime.Refused as refused:
+            self.refused[refused.number] += 1
+        except TimeoutError:
+            self.wrong.append(f"no reply of {address} within {timeout_s} seconds")
+        except OSError:
+            self.lost += 1
 
 
 def places_for(number, machines):
@@ -52,7 +109,7 @@ def use(places, seed, end, timeout_s, pause_s=0.0):
     while time.monotonic() < end:
         time.sleep(pause_s)
         machine, address = chance.choice(places)
-        try:
+        with seen.failing(address, timeout_s):
             if address not in sessions:
                 sessions[address] = truetime.Session(address, timeout_s)
             if chance.random() < 0.5:
@@ -60,12 +117,6 @@ def use(places, seed, end, timeout_s, pause_s=0.0):
             else:
                 seen.commit(sessions[address], machine)
             continue
-        except truetime.Refused as refused:
-            seen.refused[refused.number] += 1
-        except TimeoutError:
-            seen.wrong.append(f"no reply of {address} within {timeout_s} seconds")
-        except OSError:
-            seen.lost += 1
         if address in sessions:
             sessions.pop(address).close()
         time.sleep(0.02)
@@ -96,15 +147,8 @@ def come_in_turn(address, number, timeout_s):
     """Clients that come one after the other and ask for the time; what they saw."""
     seen = Seen()
     for _ in range(number):
-        try:
-            with truetime.Session(address, timeout_s) as session:
-                seen.read(session)
-        except truetime.Refused as refused:
-            seen.refused[refused.number] += 1
-        except TimeoutError:
-            seen.wrong.append(f"no reply of {address} within {timeout_s} seconds")
-        except OSError:
-            seen.lost += 1
+        with seen.failing(address, timeout_s), truetime.Session(address, timeout_s) as session:
+            seen.read(session)
     return seen
 
 

@@ -7,6 +7,7 @@ import typing
 
 from harness.processes import SECOND, Fault, truetime
 from harness.program import in_top
+from harness.users import reading_of
 from lab import hosts
 from lab.clocks import OwnClock, Receivers, compile_clock
 from lab.fleet import Fleet
@@ -105,9 +106,7 @@ class Leap(Fleet):
     def is_right(self, name: str) -> bool:
         try:
             with truetime.Session(self.machines[name].address, 5) as session:
-                before = self.now_ns()
-                now = session.now()
-                return before <= now.latest_ns and now.earliest_ns <= self.now_ns()
+                return not reading_of(session, self.now_ns).is_wrong
         except (OSError, truetime.Refused):
             return False
 

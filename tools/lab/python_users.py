@@ -11,6 +11,7 @@ import time
 import typing
 
 from harness.processes import truetime
+from harness.users import Commit, reading_of
 
 TIMEOUT_S, READINGS, TURNS, RETRY_S, TELL_S = 25, 4, 500, 0.02, 0.1
 #: Numbers between the first giver and those of stampers, which are others than those of stampers in C.
@@ -83,22 +84,20 @@ class Users:
                 pause(self.pause_s)
 
     def read(self, reader: truetime.Session | truetime.Client) -> None:
-        """A reading, which has to hold a time between two looks at the clock around it."""
-        before = time.time_ns()
-        now = reader.now()
-        after = time.time_ns()
+        """A reading, which has to be right."""
+        got = reading_of(reader)
         with self.lock:
             self.counts["readings"] += 1
-            self.width = now.latest_ns - now.earliest_ns
-        if now.latest_ns < before or now.earliest_ns > after:
-            self.say(f"wrong {after} the reading {now.earliest_ns} {now.latest_ns} between {before} and {after}")
+            self.width = got.latest - got.earliest
+        if got.is_wrong:
+            self.say(f"wrong {got.after} {got}")
 
     def tell_commit(self, began: int, stamp: int, giver: str) -> None:
-        """A commit that has just ended, whose stamp has to lie in it."""
-        ended = time.time_ns()
-        self.say(f"commit {began} {ended} {stamp} {giver} 1")
-        if not began <= stamp < ended:
-            self.say(f"wrong {ended} the stamp {stamp} of a commit between {began} and {ended}")
+        """A commit that has just ended, whose stamp has to be right."""
+        made = Commit(began, time.time_ns(), stamp)
+        self.say(f"commit {made.began} {made.ended} {made.stamp} {giver} 1")
+        if made.is_wrong:
+            self.say(f"wrong {made.ended} {made}")
 
     def say(self, line: str) -> None:
         with self.lock:

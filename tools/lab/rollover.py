@@ -5,6 +5,7 @@ import time
 import typing
 
 from harness.processes import truetime
+from harness.users import reading_of
 from lab.fleet import SETTINGS, UNCERTAINTY, Fleet, key_number
 from lab.hosts import Lab
 from lab.services import KeyFile, Machine, Master, Source, new_key, wait_until
@@ -38,9 +39,7 @@ class Watch:
             time.sleep(RETRY_S)
 
     def read(self, session: truetime.Session) -> None:
-        before = time.time_ns()
-        now = session.now()
-        self.wrong += not (now.earliest_ns <= time.time_ns() and before <= now.latest_ns)
+        self.wrong += reading_of(session).is_wrong
         moment = time.monotonic()
         self.gaps.append(moment - self.last)
         self.last = moment

@@ -11,6 +11,7 @@ import typing
 
 from harness.processes import SECOND, Fault, truetime
 from harness.program import in_top, read
+from harness.users import reading_of
 from lab import hosts, rollover
 from lab.clocks import Receivers, compile_clock
 from lab.disks import Disk
@@ -176,9 +177,7 @@ class Sharded(Fleet):
         """Whether a machine gives a right or a wrong time now; nothing where it gives none."""
         try:
             with truetime.Session(self.machines[name].address, 5) as session:
-                before = time.time_ns()
-                now = session.now()
-                return "right" if before <= now.latest_ns and now.earliest_ns <= time.time_ns() else "wrong"
+                return "wrong" if reading_of(session).is_wrong else "right"
         except (OSError, truetime.Refused):
             return ""
 

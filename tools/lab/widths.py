@@ -7,6 +7,7 @@ import typing
 
 from harness.ntp import Refused
 from harness.processes import truetime
+from harness.users import reading_of
 from lab.masters import RECEIVER, SOURCES, Masters, ahead_of_others, microseconds
 from lab.users import table
 
@@ -41,10 +42,9 @@ class Widths(Masters):
         seen, end, number, last = collections.defaultdict(list), time.monotonic() + seconds, 0, 0
         with self.reader.client() as client, truetime.Session(self.reader.address, 5) as session:
             while time.monotonic() < end:
-                before = time.time_ns()
-                now = client.now()
-                after = time.time_ns()
-                seen["wrong"] += [1] if now.latest_ns < before or now.earliest_ns > after else []
+                got = reading_of(client)
+                now = got.now
+                seen["wrong"] += [1] if got.is_wrong else []
                 if now.number != number:
                     seen["new"].append(now.latest_ns - now.earliest_ns)
                     seen["old"] += [last] if number else []

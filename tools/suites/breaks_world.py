@@ -5,12 +5,12 @@ import contextlib
 import os
 import threading
 import time
-import typing
 
 from harness.processes import SECOND, truetime
 from harness.program import read_text, run
 from harness.trial import Trial
 from harness.trouble import Fake, Spoils, honest
+from harness.users import commit_of, reading_of
 from harness.wire import poll_in
 from suites.wiring_checks import eventually
 
@@ -79,18 +79,6 @@ class Unit(threading.Thread):
             self.join(0.1)
 
 
-class Got(typing.NamedTuple):
-    """A reading, and the times since 1970 at which it was asked for and came."""
-    before: int
-    after: int
-    earliest: int
-    latest: int
-
-    @property
-    def is_wrong(self):
-        return self.latest < self.before or self.earliest > self.after
-
-
 class Users:
     """A client that reads and one that commits, again and again until they are told to end, whatever becomes of the machine."""
 
@@ -114,14 +102,10 @@ class Users:
             time.sleep(0.002)
 
     def read(self, session):
-        before = time.time_ns()
-        now = session.now()
-        self.readings.append(Got(before, time.time_ns(), now.earliest_ns, now.latest_ns))
+        self.readings.append(reading_of(session))
 
     def commit(self, session):
-        began = time.time_ns()
-        stamp = session.commit()
-        self.commits.append((began, time.time_ns(), stamp))
+        self.commits.append(commit_of(session))
 
     def wrong(self):
         return [got for got in self.readings if got.is_wrong]

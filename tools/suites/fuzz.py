@@ -25,6 +25,7 @@ from harness.processes import Fault, truetime
 from harness.program import in_top, read, run, write
 from harness.suite import Suite, seeds, total, wrong_in
 from harness.trouble import Fake
+from harness.users import reading_of
 
 suite = Suite(__name__)
 LONGEST_S, LONGEST_BYTES, MOST_KEPT = 5, 20_000, 2000
@@ -232,10 +233,9 @@ class Fuzz:
             if process.running.poll() is not None:
                 raise Fault(f"{process.name} has ended with {process.running.returncode}: {process.end_of_log()}")
         with truetime.Session(self.machine.address, LONGEST_S) as session:
-            before = time.time_ns()
-            now = session.now()
-            if now.latest_ns < before or now.earliest_ns > time.time_ns():
-                self.report("reading", b"", f"{now} at {before}")
+            got = reading_of(session)
+            if got.is_wrong:
+                self.report("reading", b"", str(got))
 
     def go_on(self, seconds):
         end, names = time.monotonic() + seconds, [*(name for name in FORMATS), "session", "session", "strangers"]

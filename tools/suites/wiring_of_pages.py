@@ -12,6 +12,7 @@ from harness.metrics import faults_in, numbers_in
 from harness.processes import free_port, truetime
 from harness.program import read_text, run, write
 from harness.trouble import Network, Spoils, disrupt, honest, page, silent
+from harness.users import reading_of
 from suites.wiring import suite
 from suites.wiring_checks import TIMES, eventually, published, spans
 
@@ -361,8 +362,8 @@ def shared_file_that_hangs(trial):
             trial.numbers(node, sharing=0)
             comes_to(trial, port, ["sharing_ended"])
             with truetime.Session(node.address, 5) as session:
-                before, now, after = time.time_ns(), session.now(), time.time_ns()
-            trial.check("setting shared", now.earliest_ns <= after and before <= now.latest_ns, f"a session has {now} from {before} to {after}")
+                got = reading_of(session)
+            trial.check("setting shared", not got.is_wrong, str(got))
             made = {name: node.status()[f"truetime_{name}_total"] - began[f"truetime_{name}_total"] for name in ("rounds", "publications")}
             trial.check("setting shared", min(made.values()) >= 5, f"{made} while a write lasts")
             trial.equal("shared number", client.read().number, written)
