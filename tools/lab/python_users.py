@@ -1,4 +1,4 @@
-"""The users of a machine in Python, until their time is over: what tools/fleet.c is in C, by the same words, and with lines of the same form.
+"""The users of a machine in Python, until their time is over: what tools/users.c is in C, by the same words, and with lines of the same form.
 
     python3 -m lab.python_users SECONDS PORT SOCKET SHARED SESSIONS STAMPERS PAUSE_MS FIRST
 """

@@ -93,7 +93,7 @@ class Users:
     MOST_KEPT = 20
 
     def __init__(self, lab: Lab, history: History | None = None, is_excused: typing.Callable[[str, int, int], bool] = lambda *_: False):
-        self.lab, self.made = lab, compile_c("fleet", lab.room, *WARNINGS, "-std=gnu11", "-pthread")
+        self.lab, self.made = lab, compile_c("users", lab.room, *WARNINGS, "-std=gnu11", "-pthread")
         self.history, self.phases = history or History(lab.program), dict[str, Phase]()
         #: Whether what is seen on a host from one time to another may be wrong: it is counted, and not told.
         self.is_excused = is_excused

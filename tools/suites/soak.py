@@ -3,7 +3,7 @@
 It goes on for a minute, or as many seconds as --seconds says; --number of its clients are in Python, 8 where it is left out. The same seed
 makes the same faults. Five masters run on loopback, of which two may lie, and two machines. A relay between them loses, delays, repeats,
 reorders and spoils packets. Clients in Python and C read and commit on both machines, over TCP, the Unix sockets and the shared
-files. All the while, by the seed,
+files, over which those in C take stamps, too. All the while, by the seed,
 
 - a machine or a master is killed and started again, or is stopped for up to five seconds;
 - a master begins to lie, or is honest again, within its uncertainty;
@@ -41,6 +41,9 @@ TIMEOUT_S = 5 * LONGEST_STOP_S
 # A life that has heard of a liar whose packet was spoiled, and not yet of each honest source, may have a right reading that is years wide:
 # a stamp by it would have all later ones wait as long. So no wider reading is used.
 MAX_WIDTH = "1s"
+# The users of a machine in C: sessions, over TCP and the Unix socket, stampers over the shared file, the pause behind each commit, and who gives the
+# stamps of sessions.
+SESSIONS, STAMPERS, PAUSE_MS, OF_SESSIONS = 2, 1, 5, "0"
 
 
 def plan_of(chance, seconds, liars):
@@ -178,9 +181,10 @@ class Clients:
         pause_s = min(0.02, seconds / 200_000)
         self.sessions = [processes.submit(use, places_for(client, machines), seed + client, end, TIMEOUT_S, pause_s) for client in range(number)]
         self.sessions += [processes.submit(read_shared, machine.path("shared"), end) for machine in machines]
-        self.made, self.in_c = compile_c("soak", room, *WARNINGS, "-std=gnu11"), {}
+        self.made, self.in_c = compile_c("users", room, *WARNINGS, "-std=gnu11", "-pthread"), {}
         for machine in machines:
-            words = [self.made, str(int(end - time.monotonic())), str(seed), str(machine.address[1]), machine.path("socket"), machine.path("shared")]
+            words = [self.made, str(int(end - time.monotonic())), str(machine.address[1]), machine.path("socket"), machine.path("shared"),
+                     str(SESSIONS), str(STAMPERS), str(PAUSE_MS), OF_SESSIONS]
             with open(f"{self.made}-{machine.name}", "wb") as said:
                 self.in_c[machine.name] = subprocess.Popen(words, stdout=said)
 
@@ -196,9 +200,9 @@ class Clients:
             client.wait(60)
             for word, *rest in map(str.split, read_text(f"{self.made}-{name}").splitlines()):
                 if word == "commit":
-                    commits.append((name, *map(int, rest)))
-                elif word == "readings":
-                    readings, lost = readings + int(rest[0]), lost + int(rest[2])
+                    commits.append((name if rest[3] == OF_SESSIONS else f"{name}, stamper {rest[3]}", *map(int, rest[:3])))
+                elif word == "seen":
+                    readings, lost = readings + int(rest[1]), lost + int(rest[3])
                 else:
                     wrong.append("C: " + " ".join(rest))
         trial.note(f"{readings} readings, {len(commits)} commits, {lost} sessions lost, refused {dict(refused)}")

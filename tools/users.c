@@ -1,6 +1,6 @@
-/* The users of a machine of tools/fleet, until their time is over.
+/* The users of a machine in C, until their time is over.
  *
- *     fleet SECONDS PORT SOCKET SHARED SESSIONS STAMPERS PAUSE_MS FIRST
+ *     users SECONDS PORT SOCKET SHARED SESSIONS STAMPERS PAUSE_MS FIRST
  *
  * SESSIONS threads read and commit, half of them at the TCP port of 127.0.0.1 and half at the Unix socket; STAMPERS threads take stamps over the
  * shared file, a few at a time, and wait until they are past. Each pauses behind each commit. Prints, all times by the real-time clock,
