@@ -5,11 +5,11 @@ import hashlib
 import secrets
 import socket
 import struct
-import threading
 import time
 import typing
 
-from harness.processes import SECOND, free_port
+from harness.processes import SECOND
+from harness.responder import Responder
 
 #: First byte, stratum, poll, precision; root delay, root dispersion, reference; when the clock was set, origin, receive, transmit.
 PACKET = struct.Struct(">BBbbIIIQQQQ")
@@ -148,47 +148,32 @@ def kiss(code: str) -> Says:
     return Says(leap=UNSET, stratum=0, reference=int.from_bytes(code.encode(), "big"))
 
 
-class FakeServer(threading.Thread):
+class FakeServer(Responder):
     """A server of NTP that says what it is told, and keeps the requests: their bytes, and the monotonic clock when each came."""
 
     def __init__(self, says: Says | None = None, host: str = "127.0.0.1", port: int | None = None):
-        super().__init__(daemon=True)
-        self.door = socket.socket(socket.AF_INET6 if ":" in host else socket.AF_INET, socket.SOCK_DGRAM)
-        self.door.bind((host, port or free_port(socket.SOCK_DGRAM)))
-        self.port = self.door.getsockname()[1]
-        self.address, self.says, self.ended = f"[{host}]:{self.port}" if ":" in host else f"{host}:{self.port}", says or Says(), False
+        self.says = says or Says()
         self.requests: list[bytes] = []
         self.times: list[float] = []
         #: The port from which each request came, and the address that asked last.
         self.ports: list[int] = []
         self.client: tuple[str, int] | None = None
-        self.start()
+        super().__init__(host, port)
 
-    def close(self) -> None:
-        self.ended = True
-        with contextlib.suppress(OSError):
-            self.door.shutdown(socket.SHUT_RDWR)
-        with contextlib.suppress(OSError), socket.socket(self.door.family, socket.SOCK_DGRAM) as door:
-            door.sendto(b"", self.door.getsockname())
-        self.join(2)
-        self.door.close()
-
-    def run(self) -> None:
-        while not self.ended:
-            with contextlib.suppress(OSError):
-                packet, sender = self.door.recvfrom(2048)
-                if len(packet) >= PACKET.size:
-                    self.client = sender
-                    self.ports.append(sender[1])
-                    self.requests.append(packet)
-                    self.times.append(time.monotonic())
-                    if self.says.elsewhere:
-                        with socket.socket(socket.AF_INET, socket.SOCK_DGRAM) as other:
-                            other.sendto(self.reply_to(packet, self.says.elsewhere), sender)
-                    for _ in range(self.says.strays):
-                        self.door.sendto(bytes(PACKET.size - 1), sender)
-                    if reply := self.reply_to(packet, self.says):
-                        self.door.sendto(reply, sender)
+    def take(self, packet: bytes, sender: tuple) -> None:
+        if len(packet) < PACKET.size:
+            return
+        self.client = sender
+        self.ports.append(sender[1])
+        self.requests.append(packet)
+        self.times.append(time.monotonic())
+        if self.says.elsewhere:
+            with contextlib.suppress(OSError), socket.socket(socket.AF_INET, socket.SOCK_DGRAM) as other:
+                other.sendto(self.reply_to(packet, self.says.elsewhere), sender)
+        for _ in range(self.says.strays):
+            self.send_to(bytes(PACKET.size - 1), sender)
+        if reply := self.reply_to(packet, self.says):
+            self.send_to(reply, sender)
 
     @staticmethod
     def reply_to(request: bytes, says: Says) -> bytes:

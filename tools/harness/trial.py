@@ -8,7 +8,7 @@ import typing
 from harness.processes import Service
 from harness.program import PROGRAM, Ran, run
 from harness.refusals import strange_sentences
-from harness.trouble import POLL_S, WAIT_S, Fake, Node
+from harness.trouble import POLL_S, WAIT_S, FakeMaster, Node
 
 
 @dataclasses.dataclass(frozen=True)
@@ -101,9 +101,9 @@ class Trial(Service):
     def masters(self, number: int) -> list:
         return [self.master(source) for source in range(number)]
 
-    def fakes(self, *acts) -> list[Fake]:
-        """Masters of this script, each with what it does with a poll."""
-        return [self.keep(Fake(act)) for act in acts]
+    def scripts(self, *acts) -> list[FakeMaster]:
+        """Masters of this script. Each has its acts, one for each poll in turn, and the last one for all further ones."""
+        return [self.keep(FakeMaster(*(one if isinstance(one, (list, tuple)) else [one]))) for one in acts]
 
     def node(self, masters, name: str = "A", **settings) -> Node:
         """A machine that is not started yet; masters are processes, fakes, addresses or tables."""

@@ -12,8 +12,9 @@ import threading
 import time
 
 from harness import wire
-from harness.processes import Fault, Machine, free_port, raw_ns, truetime
+from harness.processes import Fault, Machine, raw_ns, truetime
 from harness.program import compile_c, read_text, write
+from harness.responder import Responder
 
 NOBODY = 65534
 FIN_WAIT1 = 4  # of the kernel's states of TCP
@@ -163,48 +164,39 @@ class Node(Machine):
 
 # Masters.
 
-class Fake(threading.Thread):
-    """A master of this script: `act` says what it does with a poll. It keeps when polls came, and from where the last one."""
+class FakeMaster(Responder):
+    """A master of this script. Its acts are for one poll each, the last one for all further ones. It keeps each poll with its time since 1970, and
+    from where the last one came; what is none is strange."""
 
-    def __init__(self, act, host="127.0.0.1"):
-        super().__init__(daemon=True)
-        is_six = ":" in host
-        self.door = socket.socket(socket.AF_INET6 if is_six else socket.AF_INET, socket.SOCK_DGRAM)
-        self.door.bind((host, free_port(socket.SOCK_DGRAM)))
-        self.address, self.act = f"{f'[{host}]' if is_six else host}:{self.door.getsockname()[1]}", act
-        self.came, self.strange, self.machine, self.ended = [], [], None, False
-        self.start()
+    def __init__(self, *acts, host="127.0.0.1"):
+        self.acts, self.polls, self.times, self.strange, self.machine = acts, [], [], [], None
+        super().__init__(host)
 
-    def close(self):
-        self.ended = True
-        with contextlib.suppress(OSError), socket.socket(self.door.family, socket.SOCK_DGRAM) as door:
-            door.sendto(b"", self.door.getsockname())
-        self.join(2)
-        self.door.close()
+    def take(self, packet, sender):
+        if len(packet) == wire.REQUEST.size and packet.startswith(wire.MAGIC):
+            self.act(packet, sender)
+        else:
+            self.strange.append(packet)
 
-    def run(self):
-        while not self.ended:
-            packet, sender = self.door.recvfrom(2048)
-            if len(packet) != wire.REQUEST.size or wire.poll_in(packet).magic != wire.MAGIC:
-                self.strange.append(packet)
-                continue
-            self.came.append(time.monotonic())
-            self.machine = sender
-            self.act(self, packet)
+    def act(self, poll, sender):
+        """Does what is due with a poll."""
+        self.times.append(time.time_ns())
+        self.polls.append(wire.poll_in(poll))
+        self.machine = sender
+        self.acts[min(len(self.polls), len(self.acts)) - 1](self, poll)
 
     def send(self, packet):
-        with contextlib.suppress(OSError):
-            self.door.sendto(packet, self.machine)
+        self.send_to(packet, self.machine)
 
-    def answer(self, poll, nonce_ahead=0):
-        """Answers a poll; ahead of its nonce where it is to be refused."""
-        self.send(self.answer_to(poll, nonce_ahead))
+    def answer(self, poll, ahead_ns=0, **changed):
+        """Answers a poll."""
+        self.send(answer(poll, ahead_ns, **changed))
 
-    @staticmethod
-    def answer_to(poll, nonce_ahead=0, ahead_ns=0):
-        """The answer to a poll by this host's clock, or by one that is so far ahead of it."""
-        now = time.time_ns() + ahead_ns
-        return wire.answer_to(poll, now - 1_000_000, now + 1_000_000, nonce=wire.poll_in(poll).nonce + nonce_ahead)
+
+def answer(poll, ahead_ns=0, **changed):
+    """The answer to a poll by this host's clock, or by one that is so far ahead of it, with these fields changed."""
+    now = time.time_ns() + ahead_ns
+    return wire.answer_to(poll, now - 1_000_000, now + 1_000_000, **changed)
 
 
 def silent(*_):
@@ -236,14 +228,14 @@ def junk_then_answer(fake, poll):
 
 def forged_then_answer(fake, poll):
     """An answer that is refused, and the true one 10 ms later."""
-    fake.answer(poll, 1)
+    fake.answer(poll, nonce=wire.poll_in(poll).nonce + 1)
     time.sleep(0.01)
     fake.answer(poll)
 
 
 def empty_packets(fake, _):
     """From the first poll on 4,000 empty packets a second, and no answer."""
-    if len(fake.came) == 1:
+    if len(fake.polls) == 1:
         threading.Thread(target=send_empty, args=(fake,), daemon=True).start()
 
 

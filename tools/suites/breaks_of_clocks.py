@@ -20,8 +20,9 @@ STANDS, FAST, LESS_FAST, SLOW = -1_000_000, 10_000, 2_000, -83_000
 
 def between_rounds(world):
     """Returns just after a round, so that a turn of the clock that is told of now comes before the next one."""
-    seen = len(world.sources[0].polls[0])
-    eventually(lambda: len(world.sources[0].polls[0]) > seen, pause_s=0.001)
+    source = world.sources[0]
+    seen = len(source.times_of(0))
+    eventually(lambda: len(source.times_of(0)) > seen, pause_s=0.001)
     time.sleep(0.01)
 
 
@@ -192,7 +193,7 @@ def clock_slow_by_what_the_drift_covers(trial):
 def clock_past_its_greatest(trial):
     """It comes to 4 * 10^18 nanoseconds, above which it counts as one that cannot be read: rounds are given up, a session is told 803, a new one is
     closed, and the machine stays."""
-    spoils, node = Spoils(trial.room), trial.node(trial.fakes(*[honest] * 3), poll="100ms")
+    spoils, node = Spoils(trial.room), trial.node(trial.scripts(*[honest] * 3), poll="100ms")
     spoils.tell("course", f"{raw_ns()} {4 * 10**18 - 3 * SECOND} 0\n")
     node.environment = spoils.environment
     node.run()

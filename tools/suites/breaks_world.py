@@ -1,6 +1,5 @@
 """What the scenarios of the suite `breaks` share: masters that lie when they are told, a machine with its unit and its clients, and what a
 break has to look like from outside."""
-import collections
 import contextlib
 import os
 import threading
@@ -9,9 +8,8 @@ import time
 from harness.processes import SECOND, truetime
 from harness.program import read_text, run
 from harness.trial import Trial
-from harness.trouble import Fake, Spoils, honest
+from harness.trouble import FakeMaster, Spoils, honest
 from harness.users import commit_of, reading_of
-from harness.wire import poll_in
 from suites.wiring_checks import eventually
 
 MILLISECOND = SECOND // 1000
@@ -42,17 +40,20 @@ class Breaks(Trial):
         return self.keep(Unit(node))
 
 
-class Source(Fake):
-    """A master by this host's clock, or so far ahead of it as it is told, or silent. It keeps when polls of each machine came, since 1970."""
+class Source(FakeMaster):
+    """A master by this host's clock, or so far ahead of it as it is told, or silent."""
 
     def __init__(self):
-        self.ahead, self.is_silent, self.polls = 0, False, collections.defaultdict(list)
+        self.ahead, self.is_silent = 0, False
         super().__init__(Source.do)
 
     def do(self, poll):
-        self.polls[poll_in(poll).machine].append(time.time_ns())
         if not self.is_silent:
-            self.send(self.answer_to(poll, ahead_ns=self.ahead))
+            self.answer(poll, self.ahead)
+
+    def times_of(self, machine):
+        """When the polls of this machine came, since 1970."""
+        return [moment for moment, poll in zip(self.times, self.polls) if poll.machine == machine]
 
 
 class Unit(threading.Thread):
@@ -150,7 +151,7 @@ class World:
 
     def rounds(self, since, until):
         """How many rounds began between these times."""
-        return sum(since < poll <= until for poll in self.sources[0].polls[0])
+        return sum(since < moment <= until for moment in self.sources[0].times_of(0))
 
     def read_shared(self):
         """What `ttd read` says of the shared file by the spoiled clock: its answer, and whether it says `stale`."""
@@ -162,7 +163,7 @@ class World:
         took = []
         for _ in range(2):
             self.others += 1
-            began, masters = time.monotonic_ns(), self.trial.fakes(*[honest] * 3)
+            began, masters = time.monotonic_ns(), self.trial.scripts(*[honest] * 3)
             node = self.trial.running_node(masters, f"other-{self.others}", poll="25ms", wait="50ms")
             took.append(time.monotonic_ns() - began)
             node.kill()

@@ -19,7 +19,7 @@ import time
 from harness.processes import truetime
 from harness.program import WARNINGS, compile_c, read, read_text, run, write
 from harness.suite import Suite
-from harness.trouble import NOBODY, Fake, honest
+from harness.trouble import NOBODY, FakeMaster, honest
 from harness.wire import poll_in
 
 suite = Suite(__name__)
@@ -27,7 +27,7 @@ MOST_EPOCHS = 2**64 - 1
 SPELLED = re.compile(rb"tt-epoch 1 (0|[1-9][0-9]*)\n")
 
 
-class Keeper(Fake):
+class Keeper(FakeMaster):
     """An honest master, which keeps the greatest epoch that a poll carried."""
 
     def __init__(self):

@@ -52,7 +52,7 @@ def standard_error_is_closed(trial):
 @suite.case()
 def all_standard_descriptors_are_closed(trial):
     """Nothing of the log may go to the files and sockets that are opened next."""
-    masters = trial.fakes(*[trouble.honest] * 3, trouble.silent)
+    masters = trial.scripts(*[trouble.honest] * 3, trouble.silent)
     node = trial.node(masters)
     node.words.remove("--until-eof")
     node.run(["sh", "-c", 'exec "$@" 0<&- 1>&- 2>&-', "sh"])

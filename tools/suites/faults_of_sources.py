@@ -109,7 +109,7 @@ def publishes(node, number, part=0.0, seconds=12, sources=range(3), port=None):
 @suite.case(root=True, programs=("ss",))
 def poll_socket_is_aborted(trial):
     """The kernel ends the socket of the polls (ECONNABORTED), again and again."""
-    masters = trial.fakes(*[trouble.honest] * 3)
+    masters = trial.scripts(*[trouble.honest] * 3)
     node = trial.running_node(masters)
     for _ in range(3):
         subprocess.run(["ss", "-K", "-u", "-a", "src", f"127.0.0.1:{masters[0].machine[1]}"], capture_output=True, check=True)
@@ -132,7 +132,7 @@ def port_closed_and_process_stopped(trial):
 
 def floods(trial, *acts):
     """Sources 0 and 1 lie, and those behind them are honest and 10 ms away."""
-    masters = trial.fakes(*acts, *[trouble.late(0.01)] * 3)
+    masters = trial.scripts(*acts, *[trouble.late(0.01)] * 3)
     node = trial.node(masters)
     node.run()
     yield from node.publishes_within(1)
@@ -156,7 +156,7 @@ def empty_packets_from_two_of_five(trial):
 def strangers_flood_the_machine(trial):
     """With 10,000 empty packets and 10,000 of an answer's length a second all sources are heard. With as many as go, answers are lost
     before the machine sees them, and it publishes and serves all the same."""
-    masters = trial.fakes(*[trouble.late(0.01)] * 3)
+    masters = trial.scripts(*[trouble.late(0.01)] * 3)
     node = trial.running_node(masters)
     with flooded(masters[0].machine[1], 0, 40, pause_s=0.005):
         yield from publishes(node, 8, 0.5, port=masters[0].machine[1])
@@ -168,7 +168,7 @@ def strangers_flood_the_machine(trial):
 @suite.case()
 def forged_before_true(trial):
     """An answer that is refused does not end the wait for the true one: with f = 0 all have to be heard."""
-    masters = trial.fakes(trouble.forged_then_answer, trouble.honest, trouble.forged_then_answer)
+    masters = trial.scripts(trouble.forged_then_answer, trouble.honest, trouble.forged_then_answer)
     node = trial.node(masters, faulty=0)
     node.run()
     yield from node.publishes_within(1)
@@ -181,14 +181,14 @@ def forged_before_true(trial):
 def exact(trial, wait_ms):
     """With one source dead, a round lasts as long as `wait` says: the median of 20, or on a busy host the third shortest, is within 5 ms, and
     within as much more as the machine could run in a round and had no processor."""
-    masters = trial.fakes(trouble.honest, trouble.honest, trouble.silent)
+    masters = trial.scripts(trouble.honest, trouble.honest, trouble.silent)
     node = trial.node(masters, wait=f"{wait_ms}ms", poll="1ms")
     node.run()
     end = time.monotonic() + 25 * wait_ms / 1000 * 3
-    while len(masters[2].came) < 22 and time.monotonic() < end:
+    while len(masters[2].times) < 22 and time.monotonic() < end:
         time.sleep(0.01)
-    came, held_up_ms = masters[2].came[1:22], node.held_up_ns() / len(masters[2].came) / 1e6 if masters[2].came else 0
-    lengths = [1000 * (second - first) - 1 for first, second in zip(came, came[1:])]
+    came, held_up_ms = masters[2].times[1:22], node.held_up_ns() / len(masters[2].times) / 1e6 if masters[2].times else 0
+    lengths = [(second - first) / 1e6 - 1 for first, second in zip(came, came[1:])]
     if len(lengths) < 20:
         yield f"{len(lengths)} rounds in {25 * wait_ms * 3 / 1000:.0f} seconds"
         return
@@ -211,12 +211,12 @@ def wait_is_250_ms(trial):
 @suite.case(quiet=True)
 def all_have_answered(trial):
     """Then a round ends at once, also where `wait` is long."""
-    masters = trial.fakes(*[trouble.honest] * 3)
+    masters = trial.scripts(*[trouble.honest] * 3)
     node = trial.running_node(masters, wait="5s", poll="10ms")
-    before, began = len(masters[0].came), time.monotonic()
-    while len(masters[0].came) < before + 30 and time.monotonic() < began + 6:
+    before, began = len(masters[0].times), time.monotonic()
+    while len(masters[0].times) < before + 30 and time.monotonic() < began + 6:
         time.sleep(0.01)
-    if (rounds := len(masters[0].came) - before) < 30:
+    if (rounds := len(masters[0].times) - before) < 30:
         yield f"{rounds} rounds in six seconds, with a pause of 10 ms"
 
 

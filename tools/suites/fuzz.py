@@ -24,7 +24,7 @@ import tomllib
 from harness.processes import Fault, truetime
 from harness.program import in_top, read, run, write
 from harness.suite import Suite, seeds, total, wrong_in
-from harness.trouble import Fake
+from harness.trouble import FakeMaster, answer
 from harness.users import reading_of
 
 suite = Suite(__name__)
@@ -130,7 +130,7 @@ def first_texts():
     return texts
 
 
-class LyingMaster(Fake):
+class LyingMaster(FakeMaster):
     """Answers the polls of the machine by packets that are changed by chance, at times by an honest one."""
 
     def __init__(self, chance):
@@ -138,7 +138,7 @@ class LyingMaster(Fake):
         super().__init__(LyingMaster.lie)
 
     def lie(self, poll):
-        self.corpus.texts[0] = honest = self.answer_to(poll)
+        self.corpus.texts[0] = honest = answer(poll)
         for _ in range(20):
             self.send(self.corpus.draw()[:1400])
             self.answered += 1

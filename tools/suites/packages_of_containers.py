@@ -225,7 +225,7 @@ def wrong_container(trial, root):
     shutil.rmtree(volumes, ignore_errors=True)
     for name in ("etc/truetime", "run/truetime/a", "var/lib/truetime/a"):
         os.makedirs(f"{volumes}/{name}")
-    masters = trial.fakes(*[honest] * 3)
+    masters = trial.scripts(*[honest] * 3)
     text = read_text("packaging/node.toml").replace("127.0.0.1:5601", "127.0.0.1:0")
     for source, master in enumerate(masters):
         text = text.replace(f"127.0.0.1:570{source + 1}", master.address)

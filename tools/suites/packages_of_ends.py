@@ -82,7 +82,7 @@ class Below:
     """A machine below a script, whose end is seen."""
 
     def __init__(self, trial, name):
-        self.node = trial.node(trial.fakes(*[honest] * 3), name)
+        self.node = trial.node(trial.scripts(*[honest] * 3), name)
         self.node.words.remove("--until-eof")
         self.name, self.tmp, self.running = self.node.program, self.node.path("tmp"), None
         os.mkdir(self.tmp)

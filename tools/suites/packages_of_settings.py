@@ -280,7 +280,7 @@ def stands_still_by_readings(trial):
     """What it says of a machine whose status cannot be written: one with a shared file, and one without, whose rounds then stand still while it
     answers, and which is then stopped."""
     os.symlink(os.path.abspath(trial.program), os.path.join(trial.room, "ttd"))
-    spoils, masters = Spoils(trial.room), trial.fakes(*[honest] * 3)
+    spoils, masters = Spoils(trial.room), trial.scripts(*[honest] * 3)
 
     def says(node):
         for path in (node.path("status"), node.path("state/epoch")):

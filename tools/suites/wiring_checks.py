@@ -11,7 +11,7 @@ from harness.metrics import faults_in
 from harness.processes import SECOND, Process, fields_of, truetime
 from harness.program import read_text, run
 from harness.trial import Trial
-from harness.trouble import Fake, Spoils, honest
+from harness.trouble import FakeMaster, Spoils, answer, honest
 from harness.wire import answer_to, poll_in, request_in, sealed
 
 # The names. One that changes is changed here; that of a setting or of an event also where a scenario gives or awaits it.
@@ -184,10 +184,6 @@ class Checks(Trial):
         """A command of the program that runs until the scenario ends."""
         return self.keep(Process(self, f"{words[0]}-{len(os.listdir(self.room))}", words))
 
-    def scripts(self, *acts):
-        """Masters that keep each poll. Each has its acts, one for each poll in turn, and the last one for all further ones."""
-        return [self.keep(Scripted(*(one if isinstance(one, (list, tuple)) else [one]))) for one in acts]
-
     def spoilable(self, masters, name="A", **settings):
         """A machine that has published, and what spoils its calls."""
         node = self.node(masters, name, **settings)
@@ -266,36 +262,20 @@ def put_keys(path, *lines):
 
 # Masters.
 
-class Scripted(Fake):
-    """A master that keeps each poll with its time since 1970. Its acts are for one poll each, the last one for all further ones."""
-
-    def __init__(self, *acts, host="127.0.0.1"):
-        self.acts, self.polls, self.times = acts, [], []
-        super().__init__(Scripted.play, host)
-
-    def play(self, poll):
-        self.times.append(time.time_ns())
-        self.polls.append(poll_in(poll))
-        self.acts[min(len(self.polls), len(self.acts)) - 1](self, poll)
-
-
-class Sealed(Scripted):
+class SealedMaster(FakeMaster):
     """A master with keys by their numbers. It keeps the number of each poll that opens; what does not is strange."""
 
     def __init__(self, keys, *acts, **where):
         self.keys, self.numbers = keys, []
         super().__init__(*acts, **where)
 
-    def run(self):
-        while not self.ended:
-            packet, sender = self.door.recvfrom(2048)
-            poll, number = request_in(packet)
-            if packet != sealed(poll, number, self.keys.get(number, b"")):
-                self.strange.append(packet)
-                continue
-            self.machine = sender
+    def take(self, packet, sender):
+        poll, number = request_in(packet)
+        if packet == sealed(poll, number, self.keys.get(number, b"")):
             self.numbers.append(number)
-            self.act(self, poll)
+            self.act(poll, sender)
+        else:
+            self.strange.append(packet)
 
     def send(self, packet):
         """Sends it sealed under the key of the last poll."""
@@ -306,15 +286,9 @@ class Sealed(Scripted):
         super().send(packet)
 
 
-def answer(poll, ahead_ns=0, **changed):
-    """The answer to a poll, by this host's clock and so far ahead, with these fields changed."""
-    now = time.time_ns() + ahead_ns
-    return answer_to(poll, now - 1_000_000, now + 1_000_000, **changed)
-
-
 def lies(ahead_ns):
     """It is so far ahead."""
-    return lambda fake, poll: fake.send(answer(poll, ahead_ns))
+    return lambda fake, poll: fake.answer(poll, ahead_ns)
 
 
 def spans(below_ns, above_ns):
@@ -327,7 +301,7 @@ def spans(below_ns, above_ns):
 
 def runs(rate):
     """Its clock runs by so many parts per million faster from its first poll on."""
-    return lambda fake, poll: fake.send(answer(poll, (time.time_ns() - fake.times[0]) * rate // 1_000_000))
+    return lambda fake, poll: fake.answer(poll, (time.time_ns() - fake.times[0]) * rate // 1_000_000)
 
 
 def forges(*packets):

@@ -8,10 +8,10 @@ import time
 
 from harness.processes import SECOND
 from harness.program import run, write
-from harness.trouble import NOBODY, Network, Spoils, honest, silent
+from harness.trouble import NOBODY, Network, Spoils, answer, honest, silent
 from harness.wire import REQUEST, sealed
 from suites.wiring import suite
-from suites.wiring_checks import Sealed, answer, eventually, put_keys, status_of
+from suites.wiring_checks import SealedMaster, eventually, put_keys, status_of
 
 FIRST, SECOND_KEY, THIRD, OTHER = (bytes(range(start, start + 32)) for start in (0, 50, 100, 150))
 KEYS = [f"7 {FIRST.hex()} a", f"8 {SECOND_KEY.hex()}", "# no key", f"4294967295 {THIRD.hex()}"]
@@ -32,7 +32,7 @@ def table(master, key, name=None):
 
 def scripted(trial, keys, *acts, **where):
     """A master with these keys."""
-    return trial.keep(Sealed(keys, *acts, **where))
+    return trial.keep(SealedMaster(keys, *acts, **where))
 
 
 @suite.case()
