@@ -23,7 +23,6 @@ given for each call a reading within the time that the call took, by which a rig
 """
 import os
 import random
-import time
 
 from harness.program import run
 from suites.clients import MAX, SECOND, Reader, suite

@@ -18,7 +18,6 @@ missing it is left out, with a line.
 """
 import contextlib
 import itertools
-import multiprocessing
 import os
 import random
 import re
@@ -30,6 +29,7 @@ import time
 import types
 
 from harness import postgres
+from harness.databases import FORK, gather, judge_order, machines_apart
 from harness.postgres import Cluster, Failed
 from harness.processes import SECOND, Fault
 from harness.program import read_text, run
@@ -39,8 +39,7 @@ from harness.suite import Suite, total, wrong_in
 NEVER = ("with the wait:", "lost", "given twice", "another stamp", "without a stamp", "torn snapshots:", "behind a watermark", "panicked",
          "is not above")
 suite = Suite(__name__, longest_s=600, again=1, never=NEVER, quick=False, beside_s=51)
-WRITERS, SKEW_NS, UNCERTAINTY_NS = 8, 2_700_000, 3_000_000
-FORK = multiprocessing.get_context("fork")
+WRITERS = 8
 # PostgreSQL counts microseconds since 2000.
 EPOCH_US = 946_684_800_000_000
 ORIGINS = "SELECT max((remote_lsn - '0/0')::bigint) FROM pg_replication_origin_status WHERE external_id LIKE 'truetime/%'"
@@ -52,8 +51,7 @@ def rig(trial):
     if postgres.missing():
         yield None
         return
-    masters = {name: [trial.master(source, offset, UNCERTAINTY_NS) for source in range(3)] for name, offset in (("A", SKEW_NS), ("B", -SKEW_NS))}
-    machines = trial.fleet(masters, faulty=1, workers=2, socket=None, poll="100ms")
+    machines = machines_apart(trial)
     with contextlib.ExitStack() as stack:
         room = stack.enter_context(postgres.fast_room(trial.room))
         installed = postgres.install(room)
@@ -122,7 +120,7 @@ def look(cluster, stop, out):
             if is_last:
                 break
             time.sleep(0.0003)
-    out.put(("reader", cluster.name, first, {}, 0, 0))
+    out.put(("reader", "ab".index(cluster.name), first, {}, 0, 0))
 
 
 def decode(cluster, stop, out):
@@ -145,7 +143,7 @@ def decode(cluster, stop, out):
                 _, mode, who, number = texts_in(message[6:])
                 first[mode, int(who), int(number)] = time.monotonic_ns()
                 stamps[mode, int(who), int(number)] = stamp
-    out.put(("decoder", cluster.name, first, stamps, marks, late))
+    out.put(("decoder", "ab".index(cluster.name), first, stamps, marks, late))
 
 
 def texts_in(tuple_data):
@@ -155,23 +153,6 @@ def texts_in(tuple_data):
         length = struct.unpack(">I", tuple_data[at + 1:at + 5])[0]
         yield tuple_data[at + 5:at + 5 + length].decode()
         at += 5 + length
-
-
-def gather(processes, out, seconds=0):
-    """What these processes give, which go on for so long."""
-    for process in processes:
-        process.start()
-    given = [out.get(timeout=60 + 2 * seconds) for _ in processes]
-    for process in processes:
-        process.join()
-    return given
-
-
-def known_by(seen, kinds, commit):
-    """When a commit was known: to its client, or to the first of these kinds."""
-    began, ended, _, server, row = commit
-    moments = [first[row] for kind, name, first, *_ in seen if kind in kinds and name == "ab"[server] and row in first]
-    return max(began, min([ended, *moments]))
 
 
 @case
@@ -201,25 +182,12 @@ def judge_all(trial, history, seen):
     trial.equal("transactions behind a watermark above their stamps", sum(given[5] for given in seen), 0)
     trial.check("watermarks", all(given[4] > 5 for given in seen if given[0] == "decoder"), "few came")
 
-    def out_of_order(mode, *kinds):
-        return trial.judge([(commit[0], known_by(seen, kinds, commit), commit[2]) for commit in history[mode]])
-
     for mode, of_mode in history.items():
-        trial.check(f"{mode}: commits", len(of_mode) > 50, f"only {len(of_mode)} commits")
         for server in 0, 1:
             given = [commit[2] for commit in of_mode if commit[3] == server]
             trial.equal(f"{mode}: equal stamps on server {server}", len(given) - len(set(given)), 0)
         trial.equal(f"{mode}: stamps in the stream", sum(stamps.get(commit[4]) == commit[2] for commit in of_mode), len(of_mode))
-    by_all, without = out_of_order("on", "reader", "decoder"), out_of_order("off")
-    behind = [out_of_order("behind", *kinds) for kinds in ((), ("reader",), ("decoder",))]
-    trial.note(f"{len(history['on'])} commits, {by_all} out of order by whoever knew first; "
-               f"{len(history['off'])} without the wait, {without} by clients; "
-               f"{len(history['behind'])} with a wait behind the commit, {behind[0]} by clients, {behind[1]} by readers, {behind[2]} by decoders")
-    trial.equal("with the wait", by_all, 0)
-    trial.check("without the wait", without > 0, "the judge sees nothing")
-    trial.equal("with a wait behind the commit, by clients", behind[0], 0)
-    trial.check("with a wait behind the commit, by readers and decoders", behind[1] + behind[2] > 0, "the judge sees nothing")
-    trial.count(commits=len(history["on"]), out_of_order=by_all)
+    judge_order(trial, history, seen, ("reader", "decoder"), "commit")
 
 
 # Kills.

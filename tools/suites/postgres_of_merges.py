@@ -9,9 +9,10 @@ import threading
 import time
 
 from harness import postgres
+from harness.databases import FORK, gather
 from harness.processes import Fault
 from harness.program import in_top, run
-from suites.postgres import FORK, case, commits, gather, later, move, suite
+from suites.postgres import case, commits, later, move, suite
 
 PYTHON, FOLDER = "/usr/bin/python3", in_top("clients/postgres/merge")
 

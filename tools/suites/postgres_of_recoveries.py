@@ -7,8 +7,8 @@ import time
 from harness import postgres
 from harness.postgres import Cluster, Connection, Failed
 from harness.processes import Fault
-from harness.program import read_text, run, write
-from suites.postgres import case, stamp_in, stamp_of_new_session, state_of, suite
+from harness.program import read_text, write
+from suites.postgres import case, stamp_of_new_session, state_of, suite
 
 BOUNCER = "/usr/sbin/pgbouncer"
 STAMPS = "SELECT truetime.stamp_of(xmin) FROM kept ORDER BY 1"

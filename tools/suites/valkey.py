@@ -12,7 +12,6 @@ All is on Unix sockets and ports of the loopback. Where redis-server or a C comp
 """
 import contextlib
 import itertools
-import multiprocessing
 import os
 import random
 import re
@@ -22,13 +21,13 @@ import types
 from concurrent.futures import ThreadPoolExecutor
 
 from harness import redis
+from harness.databases import FORK, gather, judge_order, machines_apart
 from harness.redis import Failed, Server
 from harness.suite import Suite, total, wrong_in
 
 suite = Suite(__name__, longest_s=90, again=1, never=("with the wait:", "lost", "given twice", "another stamp", "torn snapshots:", "not above"),
               quick=False, beside_s=9)
-WRITERS, SKEW_NS, UNCERTAINTY_NS = 6, 2_700_000, 3_000_000
-FORK = multiprocessing.get_context("fork")
+WRITERS = 6
 
 
 def missing():
@@ -42,10 +41,9 @@ def rig(trial):
     if missing():
         yield None
         return
-    masters = {name: [trial.master(source, offset, UNCERTAINTY_NS) for source in range(3)] for name, offset in (("A", SKEW_NS), ("B", -SKEW_NS))}
     with ThreadPoolExecutor(1) as pool, contextlib.ExitStack() as stack:
         building = pool.submit(redis.build, trial.room)
-        machines = trial.fleet(masters, faulty=1, workers=2, socket=None, poll="100ms")
+        machines = machines_apart(trial)
         module = building.result()
 
         def server(name, machine):
@@ -142,23 +140,6 @@ def look(server, kind, place, stop, out):
     out.put((kind, place, first, rows))
 
 
-def gather(processes, out):
-    """What these processes give."""
-    for process in processes:
-        process.start()
-    given = [out.get(timeout=60) for _ in processes]
-    for process in processes:
-        process.join()
-    return given
-
-
-def known_by(seen, kinds, commit):
-    """When a commit was known: to its client, or to the first of these kinds."""
-    began, ended, _, place, row = commit
-    moments = [first[row] for kind, where, first, _ in seen if kind in kinds and where == place and row in first]
-    return max(began, min([ended, *moments]))
-
-
 @case
 def order(trial):
     """Commits of two servers are judged by clients, readers and readers of replicas, with the wait and by both controls."""
@@ -180,26 +161,13 @@ def order(trial):
 
 
 def judge_all(trial, history, seen):
-    def out_of_order(mode, *kinds):
-        return trial.judge([(commit[0], known_by(seen, kinds, commit), commit[2]) for commit in history[mode]])
-
-    for mode, of_mode in history.items():
-        trial.check(f"{mode}: commits", len(of_mode) > 50, f"only {len(of_mode)} commits")
     told = {commit[4]: commit[2] for commit in history["on"]}
     for kind, place, _, rows in seen:
         stamps = [int(stamp) for stamp, row in zip(rows[::2], rows[1::2]) if row in told]
         trial.equal(f"{kind} {place}: rows", len(stamps), sum(commit[3] == place for commit in history["on"]))
         trial.check(f"{kind} {place}: stamps", all(a < b for a, b in itertools.pairwise(stamps)), "they do not rise, or one was given twice")
         trial.equal(f"{kind} {place}: another stamp", [row for stamp, row in zip(rows[::2], rows[1::2]) if told.get(row, int(stamp)) != int(stamp)], [])
-    by_all, without = out_of_order("on", "reader", "replica"), out_of_order("off")
-    behind = [out_of_order("behind", *kinds) for kinds in ((), ("reader",), ("replica",))]
-    trial.note(f"{len(told)} commits, {by_all} out of order by whoever knew first; {len(history['off'])} without the wait, {without} by clients; "
-               f"{len(history['behind'])} with a wait behind the command, {behind[0]} by clients, {behind[1]} by readers, {behind[2]} by replicas")
-    trial.equal("with the wait", by_all, 0)
-    trial.check("without the wait", without > 0, "the judge sees nothing")
-    trial.equal("with a wait behind the command, by clients", behind[0], 0)
-    trial.check("with a wait behind the command, by readers and replicas", behind[1] + behind[2] > 0, "the judge sees nothing")
-    trial.count(commits=len(told), out_of_order=by_all)
+    judge_order(trial, history, seen, ("reader", "replica"), "command")
 
 
 # Files and replicas.
