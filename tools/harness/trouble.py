@@ -467,9 +467,9 @@ def hold_lock(path):
 
 
 def reset(door):
-    """Closes a connection so that the other side is told of a reset."""
+    """Closes a connection at once, also where a file is over it, so that the other side is told of a reset."""
     door.setsockopt(socket.SOL_SOCKET, socket.SO_LINGER, struct.pack("ii", 1, 0))
-    door.close()
+    os.close(door.detach())
 
 
 def end_connection(door):

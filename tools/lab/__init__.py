@@ -11,4 +11,6 @@ fleet with these and what is done to it, `python_users` more users. `shard_runs`
 For tools/masters `wires` joins hosts by a switch of the kernel; `clocks` makes clocks of servers, and receivers; `servers` runs chronyd and
 ntpsec; `masters` is masters over them, and a machine. `master_runs`, `upsets`, `widths` and `jumps` are tried with that, and
 `documented_masters` runs the files of docs/MASTERS.md.
+
+`commands` has what both tools do alike.
 """

@@ -77,13 +77,22 @@ def has_time_namespaces() -> bool:
     return ran.status == 0 and float(ran.said) > time.monotonic() + TRIED_S / 2
 
 
+def lacking(programs: typing.Iterable[str]) -> str:
+    """Which of these programs are not here, or nothing."""
+    return " and ".join(program for program in programs if not shutil.which(program))
+
+
+def unable(programs: typing.Iterable[str]) -> str:
+    """What is wanted for hosts and not here, root or these programs, or nothing."""
+    wanted = "root" if os.geteuid() != 0 else lacking(programs)
+    return wanted and f"it wants {wanted}"
+
+
 @functools.cache
 def missing() -> str:
     """Why no hosts can be made here, or nothing."""
-    if os.geteuid() != 0:
-        return "it wants root"
-    if lacking := [program for program in PROGRAMS if not shutil.which(program)]:
-        return f"it wants {' and '.join(lacking)}"
+    if why := unable(PROGRAMS):
+        return why
     space = f"{PREFIX}-{os.getpid()}-try"
     try:
         do("ip", "netns", "add", space)

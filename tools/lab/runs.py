@@ -3,7 +3,7 @@ import collections
 import time
 import typing
 
-from harness.processes import Fault, truetime
+from harness.processes import Fault, Process, truetime
 from lab.fleet import PHASES, Fleet
 from lab.users import rows_of, table
 
@@ -121,16 +121,20 @@ class Run:
             self.wrong.append(f"{history.number} commits are few")
 
     def judge_memory(self) -> None:
-        """A machine that was used, against what it has after a new start."""
+        """Each machine that was used, against what it has after a new start."""
         for machine in self.fleet.machines.values():
-            try:
-                used = machine.resources()
-                machine.restart()
-                machine.use_all_workers()
-                said, is_more = machine.keeps_more(machine.resources(), used)
-            except (Fault, OSError, truetime.Refused) as fault:
-                self.wrong.append(f"machine {machine.name} after the run: {fault}")
-                continue
-            self.say(f"{said} before that")
-            if is_more:
-                self.wrong.append(f"machine {machine.name} keeps memory, descriptors or threads")
+            self.judge_memory_of(machine, f"machine {machine.name}", machine.use_all_workers)
+
+    def judge_memory_of(self, process: Process, name: str, use: typing.Callable[[], object]) -> None:
+        """A process that was used, against what it has after a new start, once it was used again."""
+        try:
+            used = process.resources()
+            process.restart()
+            use()
+            said, is_more = process.keeps_more(process.resources(), used)
+        except (Fault, OSError, truetime.Refused) as fault:
+            self.wrong.append(f"{name} after the run: {fault}")
+            return
+        self.say(f"{said} before that")
+        if is_more:
+            self.wrong.append(f"{name} keeps memory, descriptors or threads")

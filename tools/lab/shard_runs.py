@@ -1,4 +1,5 @@
 """A fleet with shards under faults, as long as is wanted, and what was wrong in it."""
+import functools
 import os
 import subprocess
 import time
@@ -134,14 +135,4 @@ class ShardRun(Run):
         self.judge_epochs()
         self.judge_evidence()
         for master in self.fleet.masters:
-            try:
-                used = master.resources()
-                master.restart()
-                await_answers(master)
-                said, is_more = master.keeps_more(master.resources(), used)
-            except (Fault, OSError, truetime.Refused) as fault:
-                self.wrong.append(f"{master.name} after the run: {fault}")
-                continue
-            self.say(f"{said} before that")
-            if is_more:
-                self.wrong.append(f"{master.name} keeps memory, descriptors or threads")
+            self.judge_memory_of(master, master.name, functools.partial(await_answers, master))

@@ -3,7 +3,6 @@ import contextlib
 import dataclasses
 import functools
 import os
-import shutil
 import subprocess
 import sys
 import time
@@ -48,11 +47,7 @@ FOREVER = 2**64
 @functools.cache
 def missing() -> str:
     """Why it cannot run here, or nothing."""
-    if why := hosts.missing():
-        return why
-    if lacking := [program for program in ("go", "etcd", "setpriv") if not shutil.which(program)]:
-        return f"it wants {' and '.join(lacking)}"
-    return no_chronyd()
+    return hosts.missing() or hosts.unable(("go", "etcd", "setpriv")) or no_chronyd()
 
 
 @dataclasses.dataclass

@@ -1,13 +1,11 @@
 """Hosts that one switch joins by wires of the kernel: packets take microseconds, and nothing is done to them."""
 import contextlib
 import functools
-import os
-import shutil
 import typing
 
 from harness.processes import Fault
 from harness.program import run
-from lab.hosts import DEVICE, Host, Lab, do
+from lab.hosts import DEVICE, Host, Lab, do, unable
 
 PREFIX = "ttmaster"
 SWITCH, BRIDGE = "switch", "bridge0"
@@ -17,10 +15,8 @@ PROGRAMS = ("ip", "setpriv")
 @functools.cache
 def missing() -> str:
     """Why no hosts can be made here, or nothing."""
-    if os.geteuid() != 0:
-        return "it wants root"
-    if lacking := [program for program in PROGRAMS if not shutil.which(program)]:
-        return f"it wants {' and '.join(lacking)}"
+    if why := unable(PROGRAMS):
+        return why
     try:
         with Wires(""):
             return ""

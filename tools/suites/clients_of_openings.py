@@ -20,12 +20,12 @@ import os
 import re
 import socket
 import socketserver
-import struct
 import threading
 import time
 from concurrent.futures import ThreadPoolExecutor
 
 from harness.shared_file import RAW, boot_id, empty_file, file_of, file_of_version_1, of_another_boot
+from harness.trouble import reset
 from suites.clients import Reader, session_probes, suite
 
 COUNT, QUESTIONS = 100, 3
@@ -266,8 +266,7 @@ def end(one):
     """Ends a connection: first its replies, and then all of it."""
     with contextlib.suppress(OSError):
         one.shutdown(socket.SHUT_WR)
-    one.setsockopt(socket.SOL_SOCKET, socket.SO_LINGER, struct.pack("ii", 1, 0))
-    one.close()
+    reset(one)
 
 
 def try_ended(trial, name, words, room):

@@ -2,7 +2,6 @@
 import contextlib
 import os
 import socket
-import struct
 import subprocess
 import time
 
@@ -297,18 +296,12 @@ def cut(door, _):
     door.shutdown(socket.SHUT_RDWR)
 
 
-def break_off(door, _):
-    """Ends the connection by a reset."""
-    door.setsockopt(socket.SOL_SOCKET, socket.SO_LINGER, struct.pack("ii", 1, 0))
-    os.close(door.detach())
-
-
 @suite.case()
 def ask_without_a_reply(trial):
     """Standard error says why there is none, behind the address: each cause has a sentence of its own."""
     closed = "the connection was closed before a whole reply"
     for act, sentence in ((lambda door, _: door.shutdown(socket.SHUT_RDWR), closed), (cut, closed),
-                          (break_off, "the connection failed before a whole reply"),
+                          (lambda door, _: reset(door), "the connection failed before a whole reply"),
                           (lambda door, _: door.sendall(b"n" * 128 + b"\n"), "the reply has more than 128 bytes")):
         service = trial.keep(Answerer(act))
         ran, line = trial.command("ask", service.address, "now"), f"ttd: {service.address}: {sentence}"

@@ -310,6 +310,13 @@ def texts_of_keys(trial):
         trial.check("option keys", is_answered(asked, number, key, 5), f"no answer under the key {number}")
 
 
+def write_in_place(path, key, *times):
+    """Writes another key over the only one of a file, which has these times then, in nanoseconds."""
+    with open(path, "r+b", buffering=0) as file:
+        file.write(f"7 {key.hex()}".encode())
+    os.utime(path, ns=times)
+
+
 @suite.case()
 def keys_written_in_place(trial):
     """A file of keys that is as long as before, and was written in its place in the same second, is read again, and so is one whose mode alone
@@ -321,9 +328,7 @@ def keys_written_in_place(trial):
     trial.logs(asked.process, "master_started")
     trial.check("option keys", is_answered(asked, 7, OLD, 5), "no answer under its key")
     time.sleep(1.1)
-    with open(keys, "r+b", buffering=0) as file:
-        file.write(f"7 {NEW.hex()}".encode())
-        os.utime(keys, ns=(second, second + 2))
+    write_in_place(keys, NEW, second, second + 2)
     trial.logs(asked.process, "keys_read", keys=1)
     trial.check("option keys", is_answered(asked, 7, NEW, 5), "no answer under the key that was written")
     trial.check("option keys", not is_answered(asked, 7, OLD), "an answer under the key before")
@@ -342,9 +347,7 @@ def keys_of_the_same_times(trial):
     trial.logs(asked.process, "master_started")
     trial.check("option keys", is_answered(asked, 7, OLD, 5), "no answer under its key")
     time.sleep(1.1)
-    with open(keys, "r+b", buffering=0) as file:
-        file.write(f"7 {NEW.hex()}".encode())
-    os.utime(keys, (1, 1))
+    write_in_place(keys, NEW, SECOND, SECOND)
     trial.logs(asked.process, "keys_read", keys=1)
     trial.check("option keys", not is_answered(asked, 7, OLD), "an answer under the key before")
     trial.check("option keys", is_answered(asked, 7, NEW, 5), "no answer under the key that was written")
