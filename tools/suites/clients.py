@@ -952,11 +952,18 @@ def time_namespaces(trial):
     trial.note(f"time namespaces: {len(trial.shared)} languages, {len(trial.result.wrong)} wrong")
 
 
+def try_at_once(trial, call, *words):
+    """Tries each kind of session by this call. They wait more than they compute, so all of them run at once."""
+    tried = list(session_probes(trial.shared))
+    with ThreadPoolExecutor() as pool:
+        list(pool.map(lambda probe: call(trial, *probe, *words), tried))
+    trial.note(f"{len(tried)} kinds of sessions; {len(trial.result.wrong)} wrong")
+
+
 @suite.case()
 def sessions(trial):
-    """Conversations in each language. They wait more than they compute, so all languages run at once."""
-    with ThreadPoolExecutor() as pool:
-        list(pool.map(lambda probe: try_sessions(trial, *probe), session_probes(trial.shared)))
+    """Conversations in each language."""
+    try_at_once(trial, try_sessions)
 
 
 def try_restarts(trial, name, words, machine):

@@ -7,10 +7,9 @@ import socket
 import subprocess
 import sys
 import threading
-from concurrent.futures import ThreadPoolExecutor
 
 from harness.program import WARNINGS, in_top, run
-from suites.clients import AGAIN, ANEW, CLOSED, SILENT, Reader, connections, play, session_probes, suite
+from suites.clients import AGAIN, ANEW, CLOSED, SILENT, Reader, connections, play, suite, try_at_once
 from suites.clients_of_openings import Answering, Listening, files_in
 
 # What each language says of each kind of error. C has the numbers in its session, and one sentence for what took a lease along or not.
@@ -102,10 +101,7 @@ def try_words(trial, name, words):
 @suite.case()
 def words_of_errors(trial):
     """Each error says why, and names the commit and the lease that went with it, in each language."""
-    probes = list(session_probes(trial.shared))
-    with ThreadPoolExecutor() as pool:
-        list(pool.map(lambda probe: try_words(trial, *probe), probes))
-    trial.note(f"{len(probes)} kinds of sessions, {len(CALLS)} calls each; {len(trial.result.wrong)} wrong")
+    try_at_once(trial, try_words)
 
 
 @suite.case(programs=("cc",))

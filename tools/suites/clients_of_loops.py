@@ -12,7 +12,7 @@ import time
 from concurrent.futures import ThreadPoolExecutor
 
 from harness.trouble import end_connection, filled
-from suites.clients import MAX, SECOND, Reader, session_probes, suite
+from suites.clients import MAX, SECOND, Reader, session_probes, suite, try_at_once
 from suites.clients_of_openings import Answering, Listening
 from suites.clients_of_waits import wants
 
@@ -277,19 +277,13 @@ def try_behind_slow_connection(trial, name, words):
 @suite.case()
 def whole_time_out_behind_a_slow_connection(trial):
     """What connecting anew takes off the time-out of one call it takes off no later one."""
-    probes = list(session_probes(trial.shared))
-    with ThreadPoolExecutor() as pool:
-        list(pool.map(lambda probe: try_behind_slow_connection(trial, *probe), probes))
-    trial.note(f"{len(probes)} kinds of sessions; {len(trial.result.wrong)} wrong")
+    try_at_once(trial, try_behind_slow_connection)
 
 
 @suite.case()
 def time_of_connecting_anew(trial):
     """Connecting anew makes no call longer than its time-out."""
-    probes = list(session_probes(trial.shared))
-    with ThreadPoolExecutor() as pool:
-        list(pool.map(lambda probe: try_slow_connection(trial, *probe), probes))
-    note(trial, probes)
+    try_at_once(trial, try_slow_connection)
 
 
 # Beside a machine.

@@ -14,7 +14,7 @@ import time
 from concurrent.futures import ThreadPoolExecutor
 
 from harness.trouble import filled
-from suites.clients import MAX, Reader, session_probes, suite
+from suites.clients import MAX, Reader, session_probes, suite, try_at_once
 from suites.clients_of_openings import Answering, Listening
 from suites.clients_of_stampers import Shared
 
@@ -361,8 +361,5 @@ def waits_at_full_paths(trial):
 @suite.case()
 def waits_of_sessions(trial):
     """Time-outs of connecting, of a reply and of a release are no longer than was said, and a commit is asked for each millisecond."""
-    with Listening(Silent) as silent, full_socket() as full, ThreadPoolExecutor() as pool:
-        ports = silent.server_address[1], full.getsockname()[1]
-        probes = list(session_probes(trial.shared))
-        list(pool.map(lambda probe: try_session(trial, *probe, *ports), probes))
-    trial.note(f"{len(probes)} kinds of sessions; {len(trial.result.wrong)} wrong")
+    with Listening(Silent) as silent, full_socket() as full:
+        try_at_once(trial, try_session, silent.server_address[1], full.getsockname()[1])
