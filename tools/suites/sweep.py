@@ -16,7 +16,7 @@ Each sweep goes on until a run meets no refusal.
 
 Then the services are swept, with the calls of the system that they make (sweep_of_services.py): allocations, reads and writes, sockets, files,
 clocks and threads. Where they make many calls of a kind, some are tried by the seed. What is told as `SERVICE: KIND=N` can be had again with
-that variable and tools/refuse_memory.c; in threads, the N-th call need not be the same.
+that variable and tools/fail_calls.c; in threads, the N-th call need not be the same.
 """
 import itertools
 import os
@@ -79,7 +79,7 @@ class Refusing:
 
 @suite.shares
 def refusing(trial):
-    yield Refusing(compile_c("refuse_memory", trial.room, "-Wall", "-Wextra", "-shared", "-fPIC"))
+    yield Refusing(compile_c("fail_calls", trial.room, "-Wall", "-Wextra", "-shared", "-fPIC"))
 
 
 def try_command(trial, words, file):

@@ -62,7 +62,7 @@ SOCKET_STAYS = "FAIL_STATX", "FAIL_UNLINK"
 
 
 class Counts:
-    """The file in which refuse_memory.c counts the calls of a process. It is in memory: none waits for a disk."""
+    """The file in which fail_calls.c counts the calls of a process. It is in memory: none waits for a disk."""
 
     def __init__(self):
         self.file = os.memfd_create("count")
@@ -494,7 +494,7 @@ def try_all(trial, place, seed, until):
     plain = {service: try_plain(place, service) for service in LIVES}
     for service, allowed in ("serve again", SERVE), ("master", MASTER):
         if missing := [kind for kind in allowed if not plain[service].counts[kind]]:
-            raise Fault(f"{service}: refuse_memory.c sees no {' and no '.join(missing)}")
+            raise Fault(f"{service}: fail_calls.c sees no {' and no '.join(missing)}")
     planned = list(plan(plain, chance))
     chance.shuffle(planned)
     place.until = until
