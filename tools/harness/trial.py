@@ -5,10 +5,10 @@ import dataclasses
 import secrets
 import typing
 
+from harness.faults import POLL_S, WAIT_S, FakeMaster, Node
 from harness.processes import Service
 from harness.program import PROGRAM, Ran, run
 from harness.refusals import strange_sentences
-from harness.trouble import POLL_S, WAIT_S, FakeMaster, Node
 
 
 @dataclasses.dataclass(frozen=True)

@@ -11,9 +11,9 @@ from harness import processes
 from harness.ntp import Refused, Reply, ask
 from harness.processes import SECOND, Fault
 from harness.program import run, write
+from lab import wires
 from lab.clocks import OwnClock, Receiver, Receivers, compile_clock
 from lab.hosts import Host, inside
-from lab import wires
 
 #: Where tools/prepare unpacks them.
 CACHE = "/var/cache/truetime"

@@ -8,9 +8,9 @@ import subprocess
 import urllib.parse
 import urllib.request
 
+from harness.faults import disrupt, page
 from harness.processes import free_port
 from harness.program import in_top, read_text, run, write
-from harness.trouble import disrupt, page
 from suites.breaks import suite
 from suites.breaks_world import World
 from suites.wiring_checks import eventually

@@ -6,9 +6,9 @@ import signal
 import socket
 import time
 
+from harness.faults import Spoils, disrupt, honest, page
 from harness.processes import SECOND, raw_ns, truetime
 from harness.program import read, run, write
-from harness.trouble import Spoils, disrupt, honest, page
 from harness.users import is_closed_within
 from suites.breaks import suite
 from suites.breaks_world import MILLISECOND, Users, World

@@ -5,9 +5,9 @@ import socket
 import threading
 import time
 
+from harness.faults import Spoils, disrupt, page
 from harness.processes import SECOND, truetime
 from harness.program import read, write
-from harness.trouble import Spoils, disrupt, page
 from suites.breaks import suite
 from suites.breaks_of_clocks import between_rounds
 from suites.breaks_world import BROKEN, World, claim_of, is_valid

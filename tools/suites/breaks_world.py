@@ -5,10 +5,10 @@ import os
 import threading
 import time
 
+from harness.faults import FakeMaster, Spoils, honest
 from harness.processes import SECOND, truetime
 from harness.program import read_text, run
 from harness.trial import Trial
-from harness.trouble import FakeMaster, Spoils, honest
 from harness.users import commit_of, reading_of
 from suites.wiring_checks import eventually
 

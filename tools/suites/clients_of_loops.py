@@ -11,7 +11,7 @@ import threading
 import time
 from concurrent.futures import ThreadPoolExecutor
 
-from harness.trouble import end_connection, filled
+from harness.faults import end_connection, filled
 from suites.clients import MAX, SECOND, Reader, session_probes, suite, try_at_once
 from suites.clients_of_openings import Answering, Listening
 from suites.clients_of_waits import wants

@@ -24,8 +24,8 @@ import threading
 import time
 from concurrent.futures import ThreadPoolExecutor
 
+from harness.faults import reset
 from harness.shared_file import RAW, boot_id, empty_file, file_of, file_of_version_1, of_another_boot
-from harness.trouble import reset
 from suites.clients import Reader, session_probes, suite
 
 COUNT, QUESTIONS = 100, 3

@@ -13,7 +13,7 @@ import threading
 import time
 from concurrent.futures import ThreadPoolExecutor
 
-from harness.trouble import filled
+from harness.faults import filled
 from suites.clients import MAX, Reader, session_probes, suite, try_at_once
 from suites.clients_of_openings import Answering, Listening
 from suites.clients_of_stampers import Shared

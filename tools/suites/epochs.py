@@ -16,10 +16,10 @@ import shutil
 import subprocess
 import time
 
+from harness.faults import NOBODY, FakeMaster, honest
 from harness.processes import truetime
 from harness.program import WARNINGS, compile_c, read, read_text, run, write
 from harness.suite import Suite
-from harness.trouble import NOBODY, FakeMaster, honest
 from harness.wire import poll_in
 
 suite = Suite(__name__)

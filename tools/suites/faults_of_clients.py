@@ -5,8 +5,8 @@ import socket
 import subprocess
 import time
 
+from harness.faults import Answerer, Spoils, full_listener, reset
 from harness.processes import SECOND, free_port, truetime
-from harness.trouble import Answerer, Spoils, full_listener, reset
 from suites.faults import suite
 
 # The end.

@@ -8,11 +8,10 @@ import subprocess
 import time
 from concurrent.futures import ThreadPoolExecutor
 
-from harness import trouble
+from harness.faults import NOBODY, as_nobody, full_listener, full_pipe, hold_lock, honest, silent
 from harness.processes import free_port, truetime
 from harness.program import in_top, read, run, write
 from harness.shared_file import FILE_BYTES, MONOTONIC, RAW, boot_id, empty_file
-from harness.trouble import as_nobody, full_listener, full_pipe, hold_lock
 from suites.faults import suite
 
 # Log and status.
@@ -52,7 +51,7 @@ def standard_error_is_closed(trial):
 @suite.case()
 def all_standard_descriptors_are_closed(trial):
     """Nothing of the log may go to the files and sockets that are opened next."""
-    masters = trial.scripts(*[trouble.honest] * 3, trouble.silent)
+    masters = trial.scripts(*[honest] * 3, silent)
     node = trial.node(masters)
     node.words.remove("--until-eof")
     node.run(["sh", "-c", 'exec "$@" 0<&- 1>&- 2>&-', "sh"])
@@ -617,9 +616,9 @@ def lock_that_may_only_be_read(trial):
     os.chmod(node.path("state/lock"), 0o444)
     for path in (trial.room, node.folder, node.path("state")):
         os.chmod(path, 0o755)
-    os.chown(node.path("state"), trouble.NOBODY, trouble.NOBODY)
+    os.chown(node.path("state"), NOBODY, NOBODY)
     for words in (["--check"], ["--until-eof"]):
-        ran = subprocess.run([trial.program, "serve", node.path("node.toml"), *words], user=trouble.NOBODY, group=trouble.NOBODY, extra_groups=[],
+        ran = subprocess.run([trial.program, "serve", node.path("node.toml"), *words], user=NOBODY, group=NOBODY, extra_groups=[],
                              stdin=subprocess.DEVNULL, capture_output=True, text=True, timeout=10, check=False)
         if (ran.stdout, ran.returncode) != ("refused 1812\n", 4):
             yield f"{words[0]} answers {ran.stdout!r}, and {ran.stderr[-200:]!r}"
@@ -635,10 +634,10 @@ def shared_file_that_may_not_be_opened(trial):
     shutil.copy(trial.program, node.program)
     for folder, _, names in os.walk(node.folder):
         for path in (folder, *(os.path.join(folder, name) for name in names)):
-            os.chown(path, trouble.NOBODY, trouble.NOBODY)
+            os.chown(path, NOBODY, NOBODY)
     os.chmod(node.path("shared"), 0o400)
     os.remove(node.path("status"))
-    node.run(user=trouble.NOBODY, group=trouble.NOBODY, extra_groups=[])
+    node.run(user=NOBODY, group=NOBODY, extra_groups=[])
     yield from node.comes_to("sharing", 1, 5)
     if (mode := os.stat(node.path("shared")).st_mode & 0o777) != 0o644:
         yield f"its mode is {mode:o}"

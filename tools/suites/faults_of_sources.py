@@ -7,10 +7,10 @@ import statistics
 import subprocess
 import time
 
-from harness import trouble
+from harness.faults import (Network, empty_packets, flooded, forged_then_answer, held_up_ns, honest, junk, junk_then_answer, late, send_from_port_0,
+                             silent)
 from harness.processes import free_port
 from harness.program import read_text
-from harness.trouble import Network, flooded
 from harness.wire import Poll, poll_in
 from suites.faults import suite
 
@@ -109,7 +109,7 @@ def publishes(node, number, part=0.0, seconds=12, sources=range(3), port=None):
 @suite.case(root=True, programs=("ss",))
 def poll_socket_is_aborted(trial):
     """The kernel ends the socket of the polls (ECONNABORTED), again and again."""
-    masters = trial.scripts(*[trouble.honest] * 3)
+    masters = trial.scripts(*[honest] * 3)
     node = trial.running_node(masters)
     for _ in range(3):
         subprocess.run(["ss", "-K", "-u", "-a", "src", f"127.0.0.1:{masters[0].machine[1]}"], capture_output=True, check=True)
@@ -132,7 +132,7 @@ def port_closed_and_process_stopped(trial):
 
 def floods(trial, *acts):
     """Sources 0 and 1 lie, and those behind them are honest and 10 ms away."""
-    masters = trial.scripts(*acts, *[trouble.late(0.01)] * 3)
+    masters = trial.scripts(*acts, *[late(0.01)] * 3)
     node = trial.node(masters)
     node.run()
     yield from node.publishes_within(1)
@@ -143,20 +143,20 @@ def floods(trial, *acts):
 @suite.case()
 def junk_from_two_of_five(trial):
     """60 packets to each poll from f masters."""
-    yield from floods(trial, trouble.junk, trouble.junk_then_answer)
+    yield from floods(trial, junk, junk_then_answer)
 
 
 @suite.case()
 def empty_packets_from_two_of_five(trial):
     """4,000 empty packets a second from one of them, and junk from the other."""
-    yield from floods(trial, trouble.empty_packets, trouble.junk)
+    yield from floods(trial, empty_packets, junk)
 
 
 @suite.case()
 def strangers_flood_the_machine(trial):
     """With 10,000 empty packets and 10,000 of an answer's length a second all sources are heard. With as many as go, answers are lost
     before the machine sees them, and it publishes and serves all the same."""
-    masters = trial.scripts(*[trouble.late(0.01)] * 3)
+    masters = trial.scripts(*[late(0.01)] * 3)
     node = trial.running_node(masters)
     with flooded(masters[0].machine[1], 0, 40, pause_s=0.005):
         yield from publishes(node, 8, 0.5, port=masters[0].machine[1])
@@ -168,7 +168,7 @@ def strangers_flood_the_machine(trial):
 @suite.case()
 def forged_before_true(trial):
     """An answer that is refused does not end the wait for the true one: with f = 0 all have to be heard."""
-    masters = trial.scripts(trouble.forged_then_answer, trouble.honest, trouble.forged_then_answer)
+    masters = trial.scripts(forged_then_answer, honest, forged_then_answer)
     node = trial.node(masters, faulty=0)
     node.run()
     yield from node.publishes_within(1)
@@ -181,7 +181,7 @@ def forged_before_true(trial):
 def exact(trial, wait_ms):
     """With one source dead, a round lasts as long as `wait` says: the median of 20, or on a busy host the third shortest, is within 5 ms, and
     within as much more as the machine could run in a round and had no processor."""
-    masters = trial.scripts(trouble.honest, trouble.honest, trouble.silent)
+    masters = trial.scripts(honest, honest, silent)
     node = trial.node(masters, wait=f"{wait_ms}ms", poll="1ms")
     node.run()
     end = time.monotonic() + 25 * wait_ms / 1000 * 3
@@ -211,7 +211,7 @@ def wait_is_250_ms(trial):
 @suite.case(quiet=True)
 def all_have_answered(trial):
     """Then a round ends at once, also where `wait` is long."""
-    masters = trial.scripts(*[trouble.honest] * 3)
+    masters = trial.scripts(*[honest] * 3)
     node = trial.running_node(masters, wait="5s", poll="10ms")
     before, began = len(masters[0].times), time.monotonic()
     while len(masters[0].times) < before + 30 and time.monotonic() < began + 6:
@@ -276,7 +276,7 @@ def packets_from_port_0(trial):
         request = Poll(nonce=7).packet
         slow = []
         for nonce in range(2, 12):
-            trouble.send_from_port_0(port, request, 3)
+            send_from_port_0(port, request, 3)
             took = poll_master(door, port, nonce)
             slow += [took] if took is None or took > 0.05 else []
     if slow:
@@ -291,11 +291,11 @@ def flood_master(trial, size):
     with polling(port) as door:
         with flooded(port, size, size):
             time.sleep(0.2)
-            began, nonce, took, held_up = time.monotonic(), 1, [], trouble.held_up_ns(master.running.pid)
+            began, nonce, took, held_up = time.monotonic(), 1, [], held_up_ns(master.running.pid)
             while time.monotonic() < began + 2 or len(took) < 60 and time.monotonic() < began + 12:
                 nonce += 1
                 took.append(poll_master(door, port, nonce))
-            running = 1 - (trouble.held_up_ns(master.running.pid) - held_up) / 1e9 / (time.monotonic() - began)
+            running = 1 - (held_up_ns(master.running.pid) - held_up) / 1e9 / (time.monotonic() - began)
     answered = [one for one in took if one is not None]
     trial.note(f"{len(answered)} of {len(took)} polls answered, {1000 * statistics.median(answered or [0]):.2f} ms each")
     if len(answered) < len(took) * 0.5 * running or len(answered) < 30 * running:

@@ -21,10 +21,10 @@ import threading
 import time
 import tomllib
 
+from harness.faults import FakeMaster, answer
 from harness.processes import Fault, truetime
 from harness.program import in_top, read, run, write
 from harness.suite import Suite, seeds, total, wrong_in
-from harness.trouble import FakeMaster, answer
 from harness.users import reading_of
 
 suite = Suite(__name__)

@@ -11,8 +11,8 @@ import subprocess
 import tarfile
 import tomllib
 
+from harness.faults import honest
 from harness.program import in_top, read, read_text, run, write
-from harness.trouble import honest
 from suites.clients_as_installed import VERSION
 from suites.packages import BUILDS, files_below, packages_in, suite
 from suites.packages_of_ends import as_first, by_a_calm_host, wrong_end_of_first

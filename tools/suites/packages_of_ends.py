@@ -6,8 +6,8 @@ import signal
 import subprocess
 import time
 
+from harness.faults import honest
 from harness.program import in_top, read_text, run, write
-from harness.trouble import honest
 from suites.packages import suite
 from suites.wiring_checks import eventually
 

@@ -7,8 +7,8 @@ import threading
 import time
 import tomllib
 
+from harness.faults import Spoils, honest
 from harness.program import in_top, read_text, run, write
-from harness.trouble import Spoils, honest
 from suites.packages import suite
 
 # What keeps a service apart from the host: all have these.

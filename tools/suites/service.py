@@ -22,11 +22,11 @@ import subprocess
 import time
 from concurrent.futures import ProcessPoolExecutor, ThreadPoolExecutor
 
+from harness.faults import reset
 from harness.processes import SECOND, WORKERS, raw_ns, truetime
 from harness.program import in_top, read, run as run_once
 from harness.shared_file import index_in, slots_in
 from harness.suite import Suite
-from harness.trouble import reset
 from harness.users import come_in_turn, latest_of, never_read, places_for, reply_to, say_nothing, send_slowly, use
 from suites.clients import probes
 

@@ -25,10 +25,10 @@ import statistics
 import subprocess
 import time
 
+from harness.faults import reset
 from harness.processes import SECOND, WORKERS, free_port
 from harness.suite import Suite
 from harness.trial import Trial
-from harness.trouble import reset
 from harness.users import is_closed_within
 
 #: How many sessions a worker has at most, as docs/FORMATS.md says.

@@ -14,8 +14,8 @@ import subprocess
 import termios
 import time
 
+from harness.faults import Spoils, reset
 from harness.processes import SECOND
-from harness.trouble import Spoils, reset
 from harness.users import is_closed_within
 from suites.sessions import MOST, Door, suite
 

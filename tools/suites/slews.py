@@ -20,10 +20,10 @@ import sys
 import time
 import typing
 
+from harness.faults import Spoils
 from harness.processes import SECOND, Fault
 from harness.program import WARNINGS, in_top, read_text, write
 from harness.suite import Suite, total, wrong_in
-from harness.trouble import Spoils
 
 suite = Suite(__name__, longest_s=90, again=1, quick=False, beside_s=60)
 READERS, GO, JAVA = in_top("tests/slews"), in_top("clients/go/truetime"), in_top("clients/java/src/main/java/io/truetime/TrueTime.java")

@@ -7,11 +7,11 @@ import shutil
 import time
 from decimal import Decimal
 
+from harness.faults import FakeMaster, Spoils, answer, honest
 from harness.metrics import faults_in
 from harness.processes import SECOND, Process, fields_of, truetime
 from harness.program import read_text, run
 from harness.trial import Trial
-from harness.trouble import FakeMaster, Spoils, answer, honest
 from harness.wire import answer_to, poll_in, request_in, sealed
 
 # The names. One that changes is changed here; that of a setting or of an event also where a scenario gives or awaits it.

@@ -8,10 +8,10 @@ import shutil
 import socket
 import time
 
+from harness.faults import Spoils, disrupt, full_pipe, hold_lock, honest, late, page, silent
 from harness.processes import SECOND, fields_of
 from harness.program import read, write
 from harness.shared_file import of_another_boot, slots_in
-from harness.trouble import Spoils, disrupt, full_pipe, hold_lock, honest, late, page, silent
 from suites.breaks_world import is_valid
 from suites.wiring import suite
 from suites.wiring_checks import HERE, eventually, lies, places_of, published, status_of

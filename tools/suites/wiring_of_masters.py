@@ -6,11 +6,11 @@ import socket
 import subprocess
 import time
 
+from harness.faults import Spoils
 from harness.metrics import faults_in
 from harness.processes import SECOND, Process, free_port
-from harness.trouble import Spoils
-from harness.wire import ANSWER_BYTES, ANSWERS, REQUEST, SPAN, Poll, ends_in, first_version, sealed
 from harness.program import WARNINGS, compile_c, read_text, write
+from harness.wire import ANSWER_BYTES, ANSWERS, REQUEST, SPAN, Poll, ends_in, first_version, sealed
 from suites.wiring import suite
 from suites.wiring_checks import eventually, put_keys
 

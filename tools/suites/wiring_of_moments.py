@@ -4,11 +4,11 @@ import os
 import socket
 import time
 
+from harness.faults import Spoils
 from harness.metrics import numbers_in
 from harness.ntp import LONG, PACKET, FakeServer, Key, Says, kiss, reply_in, stamp_of
 from harness.processes import SECOND, free_port, raw_ns
 from harness.program import read_text, write
-from harness.trouble import Spoils
 from harness.wire import ANSWER_BYTES, REQUEST, SPAN, ends_in
 from suites.wiring import suite
 from suites.wiring_checks import eventually, number_of

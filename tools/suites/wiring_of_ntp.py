@@ -7,11 +7,11 @@ import socket
 import threading
 import time
 
+from harness.faults import Network, Spoils
 from harness.metrics import faults_in, numbers_in
 from harness.ntp import PACKET, SHORT, FakeServer, Key, Says, kiss, nonce_in, request_of, stamp_of
 from harness.processes import SECOND
 from harness.program import read_text, write
-from harness.trouble import Network, Spoils
 from harness.wire import ANSWER_BYTES, REQUEST, Poll, answer_to, ends_in
 from suites.wiring import suite
 from suites.wiring_checks import OF_MASTERS, eventually, number_of

@@ -8,10 +8,10 @@ import sys
 import time
 import typing
 
+from harness.faults import Network, Spoils, disrupt, honest, page, silent
 from harness.metrics import faults_in, numbers_in
 from harness.processes import free_port, truetime
 from harness.program import read_text, run, write
-from harness.trouble import Network, Spoils, disrupt, honest, page, silent
 from harness.users import reading_of
 from suites.wiring import suite
 from suites.wiring_checks import TIMES, eventually, published, spans

@@ -6,9 +6,9 @@ import socket
 import subprocess
 import time
 
+from harness.faults import NOBODY, Network, Spoils, answer, honest, silent
 from harness.processes import SECOND
 from harness.program import run, write
-from harness.trouble import NOBODY, Network, Spoils, answer, honest, silent
 from harness.wire import REQUEST, sealed
 from suites.wiring import suite
 from suites.wiring_checks import SealedMaster, eventually, put_keys, status_of

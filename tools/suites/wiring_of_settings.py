@@ -10,9 +10,9 @@ import subprocess
 import time
 from concurrent.futures import ThreadPoolExecutor
 
+from harness.faults import NOBODY, honest, late, silent
 from harness.processes import SECOND, free_port, raw_ns, truetime
 from harness.program import read, run, write
-from harness.trouble import NOBODY, honest, late, silent
 from harness.users import is_closed_within, latest_of, never_read, reply_to
 from suites.wiring import suite
 from suites.wiring_checks import eventually, lies, published, status_of

@@ -9,10 +9,10 @@ import sys
 import time
 from concurrent.futures import ThreadPoolExecutor
 
+from harness.faults import disrupt, honest, late, page, reset, silent
 from harness.metrics import faults_in
 from harness.processes import SECOND, free_port, raw_ns, truetime
 from harness.program import read_text, write
-from harness.trouble import disrupt, honest, late, page, reset, silent
 from harness.users import latest_of
 from suites.breaks_world import claim_of, is_valid
 from suites.wiring import suite

@@ -13,14 +13,14 @@ import stat
 import subprocess
 import time
 
+from harness.faults import Answerer, Spoils, disrupt, full_pipe, honest, page, silent
 from harness.ntp import FakeServer
 from harness.processes import SECOND, Process, free_port, truetime
 from harness.program import compile_c, read_text, write
-from harness.trouble import Answerer, Spoils, disrupt, full_pipe, honest, page, silent
 from suites.wiring import suite
 from suites.wiring_checks import HERE, TIMES as TIMES_OF_ALL, TIMES_OF_OTHERS, eventually, lies, places_of, status_of
-from suites.wiring_of_pages import get, with_pages
 from suites.wiring_of_masters import Spoiled
+from suites.wiring_of_pages import get, with_pages
 from suites.wiring_of_seals import FIRST, keys_at, polls_at, scripted, table
 
 FLAGS = "-Wall", "-Wextra", "-Wshadow", "-Wconversion", "-Werror", "-shared", "-fPIC"

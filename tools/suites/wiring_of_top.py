@@ -12,9 +12,9 @@ import termios
 import time
 import xml.etree.ElementTree
 
+from harness.faults import Answerer, Spoils, honest, silent
 from harness.processes import free_port
 from harness.program import in_top, read_text, run, write
-from harness.trouble import Answerer, Spoils, honest, silent
 from suites.wiring import suite
 from suites.wiring_checks import eventually, spans
 from suites.wiring_of_pages import get
