@@ -23,8 +23,8 @@ def pause(seconds: float) -> None:
     select.select((), (), (), seconds)
 
 
-class Users:
-    """All of them, and what they saw since it was last told."""
+class Threads:
+    """A thread for each of them, and what they saw since it was last told."""
 
     def __init__(self, words: typing.Sequence[str]):
         seconds, port, self.socket, self.shared, self.sessions, stampers, pause_ms, self.first = words
@@ -105,4 +105,4 @@ class Users:
 
 
 if __name__ == "__main__":
-    Users(sys.argv[1:]).run()
+    Threads(sys.argv[1:]).run()

@@ -11,7 +11,7 @@ from harness.processes import SECOND, raw_ns, truetime
 from harness.program import read, run, write
 from harness.users import is_closed_within
 from suites.breaks import suite
-from suites.breaks_world import MILLISECOND, Users, World
+from suites.breaks_world import MILLISECOND, Pair, World
 from suites.wiring_checks import eventually
 
 # Rates by which a clock stands still, is 1 % fast, a fifth of that, and 8.3 % slow.
@@ -59,7 +59,7 @@ def paused(trial, seconds, silenced=0):
     """Wrong readings until the first round that is answered, and never more, also where so many sources are silent from then on."""
     world = World(trial)
     other = trial.running_node(world.sources, "B", machine=1, poll="25ms", wait="50ms")
-    users = trial.keep(Users(other))
+    users = trial.keep(Pair(other))
     time.sleep(0.3)
     began = time.time_ns()
     went_on, answered = pause(world, seconds)
@@ -178,7 +178,7 @@ def clock_slow_by_what_the_drift_covers(trial):
     other.environment = world.spoils.environment
     other.run()
     other.wait_until_ready()
-    users = trial.keep(Users(other))
+    users = trial.keep(Pair(other))
     since = world.spoils.turn(SLOW)
     time.sleep(3)
     if world.unit.ends or world.users.wrong() or world.node.said("assumption_broken"):

@@ -3,7 +3,7 @@ import time
 
 from harness.processes import SECOND
 from suites.breaks import suite
-from suites.breaks_world import BROKEN, MILLISECOND, Source, Users, World
+from suites.breaks_world import BROKEN, MILLISECOND, Pair, Source, World
 from suites.wiring_checks import eventually
 
 # Half the width of an answer, and three rounds none of which is answered.
@@ -101,7 +101,7 @@ class Fleet:
     def __init__(self, trial, sources, **settings):
         self.nodes = [trial.node(sources, f"{number}", machine=number, poll="25ms", wait="50ms", **settings) for number in range(3)]
         self.units = [trial.unit_of(node) for node in self.nodes]
-        self.users = [trial.keep(Users(node)) for node in self.nodes]
+        self.users = [trial.keep(Pair(node)) for node in self.nodes]
         time.sleep(0.4)
 
     def all_break(self, since, number):

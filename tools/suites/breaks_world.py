@@ -80,7 +80,7 @@ class Unit(threading.Thread):
             self.join(0.1)
 
 
-class Users:
+class Pair:
     """A client that reads and one that commits, again and again until they are told to end, whatever becomes of the machine."""
 
     def __init__(self, node):
@@ -126,7 +126,7 @@ class World:
         settings = {"poll": "25ms", "wait": "50ms", "evidence": os.path.join(trial.room, "A", "evidence"), **settings}
         self.node = trial.node(self.sources, **settings)
         self.node.environment = self.spoils.environment
-        self.unit, self.users = trial.unit_of(self.node), trial.keep(Users(self.node))
+        self.unit, self.users = trial.unit_of(self.node), trial.keep(Pair(self.node))
         time.sleep(0.5)
 
     # What is told.
