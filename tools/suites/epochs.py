@@ -1,24 +1,27 @@
 """Kills a machine at each system call that touches its epoch, and starts it on epoch files that it did not write.
 
-A master in this script answers each poll, and keeps the epoch that the poll carries. By tools/stop_at.c the machine is killed before and behind each of its calls on the folder of its state,
-from a folder that is not there and from one that is. After each, the next start has to answer, in a greater epoch than any that a poll or a
-client saw, and no stamp may come twice.
+A master in this script answers each poll, and keeps the epoch that the poll carries. By strace the machine is killed as it makes each of its
+calls on the folder of its state, from a folder that is not there and from one that is; what is killed behind a call leaves what one leaves
+that is killed before the next. After each, the next start has to answer, in a greater epoch than any that a poll or a client saw, and no
+stamp may come twice.
 
 Then the file holds each prefix of its text, the text with each byte changed, other versions and chance; is a folder, or another user's; and
 the draft holds each prefix of its text. A start has to read the file exactly, or to refuse it by its number and leave it as it is. Of
 two machines on one file the second has to be refused. The files of chance are by the seed.
 """
 import contextlib
+import itertools
 import os
 import random
 import re
 import shutil
+import signal
 import subprocess
 import time
 
 from harness.faults import NOBODY, FakeMaster, honest
 from harness.processes import truetime
-from harness.program import WARNINGS, compile_c, read, read_text, run, write
+from harness.program import read, read_text, run, write
 from harness.suite import Suite
 from harness.wire import poll_in
 
@@ -49,7 +52,7 @@ class Epochs:
         self.address, self.settings, self.serve = node.address, node.path("node.toml"), [self.program, *node.words]
         self.umask = os.umask(0o022)
         os.umask(self.umask)
-        self.stops, self.stamps, self.greatest, self.wrong = compile_c("stop_at", trial.room, *WARNINGS, "-std=gnu11"), set(), 0, []
+        self.trace, self.stamps, self.greatest, self.wrong = os.path.join(trial.room, "trace"), set(), 0, []
 
     def start(self, **how):
         """Starts the machine and ends it with its input: what it wrote, and its status."""
@@ -87,19 +90,33 @@ class Epochs:
                     raise
             time.sleep(0.005)
 
+    def traced(self, is_there, *words):
+        """Starts it by strace, with a folder of its state or without: its status, and each call that was looked at, with what it has."""
+        if not is_there:
+            shutil.rmtree(self.state, ignore_errors=True)
+            self.master.greatest = self.greatest = 0
+        status = run(["strace", "-f", "-qq", "-y", "-o", self.trace, *words, *self.serve]).status
+        return status, re.findall(r"^\d+ +(\w+)\((.*)", read_text(self.trace), re.M)
+
     def stop_everywhere(self, is_there):
-        """Kills it at each stop, with a folder of its state or without; how many there are, and the calls that have them."""
-        kinds, number = [], 0
-        while not kinds or kinds[-1][:1] not in (["ended"], []):
-            number += 1
-            if not is_there:
-                shutil.rmtree(self.state, ignore_errors=True)
-                self.master.greatest = self.greatest = 0
-            kinds.append(run([self.stops, str(number), self.state, *self.serve]).said.split())
-            self.live(f"{' '.join(kinds[-1])}, stop {number}")
-        if kinds[-1] != ["ended", "0", str(number - 1)]:
-            self.wrong.append(f"unstopped it ends so: {kinds[-1]}")
-        return number - 1, sorted({kind[2] for kind in kinds[:-1]})
+        """Kills it as it makes each call on the folder of its state, with the folder or without; how many there are, and their names."""
+        status, calls = self.traced(is_there, "-e", "trace=%file,%desc")
+        if status != 0:
+            self.wrong.append(f"under strace it ends with status {status}")
+        below, stops = re.escape(self.state), 0
+        paths = {path for _, words in calls for path in re.findall(rf'["<]({below}(?:/[^">]*)?)[">]', words)}
+        names = sorted({name for name, words in calls if re.search(rf'["<]{below}[/">]', words)})
+        only = [word for path in sorted(paths) for word in ("-P", path)]
+        for name in names:
+            for number in itertools.count(1):
+                status, calls = self.traced(is_there, *only, "-e", f"trace={name}", "-e", f"inject={name}:signal=KILL:when={number}")
+                self.live(f"killed at {name}, {number} of them")
+                if status != -signal.SIGKILL:
+                    break
+                stops += 1
+            if status != 0 or len(calls) >= number:
+                self.wrong.append(f"{len(calls)} times {name}, and it is not killed at {number}: status {status}")
+        return stops, names
 
     def judge(self, what, text, said, status):
         """What a start did of a file of this text has to be what its text says."""
@@ -208,8 +225,18 @@ def stops(trial, is_there):
     os.makedirs(trial.shared.state, exist_ok=True)
     trial.shared.wrong.clear()
     number, calls = trial.shared.stop_everywhere(is_there)
-    trial.note(f"killed at {number} stops, the entries and exits of {' '.join(calls)}; {len(trial.shared.stamps)} stamps so far")
+    trial.note(f"killed at {number} calls of {' '.join(calls)}; {len(trial.shared.stamps)} stamps so far")
     yield from trial.shared.wrong
+
+
+@suite.case(programs=("strace",))
+def stops_without_a_folder(trial):
+    return stops(trial, False)
+
+
+@suite.case(programs=("strace",))
+def stops_with_a_folder(trial):
+    return stops(trial, True)
 
 
 def on_an_epoch(trial, act, *words):
@@ -231,8 +258,6 @@ def files_of_all_texts(trial):
 
 @suite.family
 def all_cases():
-    yield "stops without a folder", stops, False
-    yield "stops with a folder", stops, True
     yield "texts", files_of_all_texts
     for name, act in (("drafts", Epochs.leave_drafts), ("folder", Epochs.be_a_folder), ("two machines", Epochs.be_two),
                       ("loose files", Epochs.be_loose)):
