@@ -7,6 +7,7 @@ import socket
 import sys
 import time
 import typing
+from decimal import Decimal
 
 from harness.faults import Network, Spoils, disrupt, honest, page, silent
 from harness.metrics import faults_in, numbers_in
@@ -324,6 +325,26 @@ def sources_are_old_after_three_rounds(trial):
         time.sleep(0.02)
     trial.check("setting http", any(is_old for _, is_old in looks), "its sources never were too old")
     trial.check("setting http", all(is_old == (age > 3.0) for age, is_old in looks), f"it says so at other ages than three seconds: {looks[-3:]}")
+
+
+@suite.case()
+def page_of_one_that_falls_silent(trial):
+    """The page for people calls a source silent once its last answer is older than three rounds, by the status that it draws."""
+    node, port = with_pages(trial, trial.scripts(honest, honest, [honest, honest, silent]), poll="400ms", wait="200ms")
+    node.run()
+    node.wait_until_ready()
+    looks = []
+
+    def look():
+        before, drawn, after = (get(port, path).text for path in ("/metrics", "/", "/metrics"))
+        age = numbers_in(before).get('truetime_source_answer_age_seconds{source="2"}')
+        if before == after and age is not None:
+            looks.append((age, '<tr class="source silent"' in drawn))
+        return age is not None and age > 5
+
+    eventually(look, 15)
+    trial.check("setting http", {is_silent for _, is_silent in looks} == {False, True}, f"it never, or always, is silent: {looks[-3:]}")
+    trial.check("setting http", all(is_silent == (age > Decimal("1.8")) for age, is_silent in looks), f"it is so at other ages than 1.8 s: {looks}")
 
 
 def age_in(text):

@@ -194,6 +194,13 @@ def stale_before_a_publication(trial):
     trial.equal("log sources_stale", node.said("sources_stale"), [])
 
 
+@suite.case()
+def sources_that_fall_silent_at_once(trial):
+    """Of five sources, two of which may be faulty, three answer no more: two have answered, which are fewer than are needed."""
+    node = trial.running_node(trial.scripts(honest, honest, *[[honest] * 4 + [silent]] * 3), poll="100ms", wait="50ms")
+    trial.logs(node, "sources_stale", answered=2, needed=3)
+
+
 # How late sources answer, and by how much more a round trip may be seen, in seconds.
 DELAYS, MORE = [0.012, 0.06, 0.12], 0.04
 
