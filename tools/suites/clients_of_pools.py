@@ -36,10 +36,12 @@ SHORT_MS = 200
 
 
 class Counted(Listening):
-    """A stand-in for the service that keeps how many sessions were opened and are open, and the most that were open at once."""
+    """A stand-in for the service that keeps how many sessions were opened and are open, and the most that were open at once. Where it `refuses`, it
+    does so once, at the first line of a commit."""
 
     def __init__(self):
         self.lock, self.open, self.opened, self.most, self.stamp, self.wrong = threading.Lock(), [], 0, 0, 1000, []
+        self.refuses = False
         super().__init__(Releasing)
 
     def end_sessions(self):
@@ -73,6 +75,10 @@ class Releasing(Answering):
         with contextlib.suppress(ConnectionError):
             for line in self.rfile:
                 number = int(line.split()[1])
+                if self.server.refuses:
+                    self.server.refuses = False
+                    self.wfile.write(b"refused 801\n")
+                    continue
                 if number == last:
                     is_pending = False
                 elif is_pending or number != last + 1:
@@ -127,6 +133,10 @@ def try_pool(trial, name, probe, server):
     opened = len(server.open)
     said("free", "freed")
     trial.check(f"{name}: one that comes back with a pending commit", server.comes_to(opened - 1), f"{len(server.open)} are open of {opened}")
+    # Nor is one used again whose commit was refused, and may have begun all the same.
+    opened, server.refuses = len(server.open), True
+    said("commits 1 1", "0 stamps, 0 different, 1 errors")
+    trial.check(f"{name}: one that comes back behind a refusal", server.comes_to(opened - 1), f"{len(server.open)} are open of {opened}")
     said(f"commits {THREADS} {EACH}", all_went_well)
     # One that is out when the pool is closed stays with who has it, and is closed then. Nobody gets another one.
     said("hold", "held")

@@ -95,6 +95,34 @@ func TestPoolEndsWaitingWithContext(t *testing.T) {
 	}
 }
 
+// TestPoolClosesWhatOwesAReply has a call cancelled whose reply is still to come: nobody else gets its session.
+func TestPoolClosesWhatOwesAReply(t *testing.T) {
+	heard, dialled := make(chan struct{}), 0
+	pool := NewPool(1, func(context.Context) (*Session, error) {
+		if dialled++; dialled == 1 {
+			return dialStandIn(t, func(s *standIn) {
+				s.hear("now")
+				close(heard)
+			}), nil
+		}
+		return dialStandIn(t, func(s *standIn) { s.answer("commit 1 0", "committed 1 200") }), nil
+	})
+	session, err := pool.Get(always)
+	if err != nil {
+		t.Fatal(err)
+	}
+	cancelled(t, heard, func(ctx context.Context) error {
+		_, err := session.Now(ctx)
+		return err
+	})
+	pool.Put(session)
+	stamp, err := pool.Commit(always, 0)
+	wantStamp(t, 200, stamp, err)
+	if dialled != 2 {
+		t.Error(dialled)
+	}
+}
+
 func TestPoolWhoseDialFails(t *testing.T) {
 	pool := NewPool(1, func(context.Context) (*Session, error) { return nil, io.ErrNoProgress })
 	for turn := 0; turn < 3; turn++ {

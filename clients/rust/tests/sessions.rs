@@ -6,7 +6,7 @@ use std::net::{SocketAddr, TcpListener, TcpStream};
 use std::os::unix::fs::{MetadataExt, PermissionsExt};
 use std::os::unix::net::{UnixListener, UnixStream};
 use std::path::PathBuf;
-use std::sync::{Arc, Mutex};
+use std::sync::{Arc, Barrier, Mutex};
 use std::thread;
 use std::time::{Duration, Instant};
 use truetime::session::{Event, LONG_WAIT};
@@ -280,6 +280,25 @@ fn a_pool_that_cannot_open() {
     }
     pool.close();
     assert!(matches!(pool.commit(0), Err(Error::PoolClosed)));
+}
+
+#[test]
+fn a_pool_that_is_closed_wakes_who_waits() {
+    let address = serve(released(Duration::ZERO));
+    let pool = Pool::new(1, TIMEOUT, move || Session::connect_tcp(address, TIMEOUT));
+    let _held = pool.get().expect("a session");
+    let (began, comes) = (Instant::now(), Barrier::new(2));
+    thread::scope(|scope| {
+        let waiting = scope.spawn(|| {
+            comes.wait();
+            pool.commit(0)
+        });
+        comes.wait();
+        thread::sleep(Duration::from_millis(300));
+        pool.close();
+        assert!(matches!(waiting.join().expect("no panic"), Err(Error::PoolClosed)));
+    });
+    assert!(began.elapsed() < TIMEOUT / 2, "{:?}", began.elapsed());
 }
 
 #[test]

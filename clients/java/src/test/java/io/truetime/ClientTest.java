@@ -395,12 +395,35 @@ public final class ClientTest {
             again.close();
             check(thrown(() -> again.session().after(1)) instanceof ClosedChannelException, "it is closed with it");
         }
+        closedPool();
         check(thrown(() -> new Pool(0, TIMEOUT, () -> null)) instanceof IllegalArgumentException, "none");
         Pool none = new Pool(1, TIMEOUT, () -> {
             throw new IOException("none");
         });
         for (int turn = 0; turn < 3; turn++) {
             check("none".equals(thrown(() -> none.commit(0)).getMessage()), turn);
+        }
+    }
+
+    /** Who waits for a session of a pool that is closed waits no longer. */
+    private static void closedPool() throws Exception {
+        try (ServerSocket server = serve(0)) {
+            Pool pool = new Pool(1, TIMEOUT, () -> Session.connect(server.getLocalSocketAddress(), TIMEOUT));
+            Pool.Lent lent = pool.lend();
+            Thread closing = new Thread(() -> {
+                try {
+                    Thread.sleep(300);
+                    pool.close();
+                } catch (IOException | InterruptedException failed) {
+                    throw new IllegalStateException(failed);
+                }
+            });
+            long began = System.nanoTime();
+            closing.start();
+            check(thrown(() -> pool.commit(0)) instanceof ClosedChannelException, "it is closed");
+            check(System.nanoTime() - began < TIMEOUT.toNanos() / 2, "it is told so at once");
+            lent.close();
+            closing.join();
         }
     }
 
