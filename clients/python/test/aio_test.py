@@ -250,6 +250,29 @@ class Tasks(unittest.IsolatedAsyncioTestCase):
             async with aio.Pool(lambda: aio.Session.connect(address, float("inf")), 1, float("inf")) as pool, pool.session() as other:
                 self.assertTrue(other.is_idle)
 
+    async def test_places_of_a_pool(self):
+        """A task that is cancelled while it waits for a session of a pool, or just as one comes back, leaves its place to others."""
+        async with StandIn([], []) as (stand_in, _):
+            address = stand_in.server.sockets[0].getsockname()
+
+            async def held():
+                async with pool.session() as session:
+                    return session
+
+            async with aio.Pool(lambda: aio.Session.connect(address, LIMIT_S), 1, LIMIT_S) as pool:
+                for is_late in False, True, False, True:
+                    async with pool.session() as first:
+                        task = asyncio.ensure_future(held())
+                        await asyncio.sleep(0.05)
+                        if not is_late:
+                            task.cancel()
+                            await asyncio.wait({task})
+                    if is_late:
+                        task.cancel()
+                    with self.assertRaises(asyncio.CancelledError):
+                        await task
+                    self.assertIs(await asyncio.wait_for(held(), 2), first)
+
     async def test_reset(self):
         async def reset(reader, writer):
             await reader.readline()
