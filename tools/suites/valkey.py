@@ -7,6 +7,7 @@
 - Servers are killed by signal 9 under load: their append-only files have all that was acknowledged, in the order of stamps.
 - A replica is promoted, and a master becomes a replica.
 - Snapshots at a time, of both.
+- What waits while the readings end is given up ten seconds after it came.
 
 All is on Unix sockets and ports of the loopback. Where redis-server or a C compiler is missing it is left out, with a line.
 """
@@ -26,7 +27,7 @@ from harness.redis import Failed, Server
 from harness.suite import Suite, total, wrong_in
 
 suite = Suite(__name__, longest_s=90, again=1, never=("with the wait:", "lost", "given twice", "another stamp", "torn snapshots:", "not above"),
-              quick=False, beside_s=9)
+              quick=False, beside_s=20)
 WRITERS = 6
 
 
@@ -53,7 +54,7 @@ def rig(trial):
         replicas = [server(name, machine) for name, machine in zip(("ra", "rb"), machines.values())]
         for replica, master in zip(replicas, servers):
             replica.follow(master)
-        yield types.SimpleNamespace(machines=list(machines.values()), servers=servers, replicas=replicas)
+        yield types.SimpleNamespace(machines=list(machines.values()), servers=servers, replicas=replicas, module=module)
 
 
 def case(call):
@@ -336,6 +337,22 @@ def machines(trial):
         while client.fails("TT.EXEC", "SET", "late", "3") and time.monotonic() < end:
             time.sleep(0.05)
         trial.equal("a machine that is back", client.ask("GET", "late"), "3")
+
+
+@case
+def readings_that_end(trial):
+    """What waits while the readings end is refused ten seconds after it came, and not before; what comes then is refused at once."""
+    path = os.path.join(trial.room, "time")
+    shutil.copy(trial.shared.machines[0].shared, path)
+    server = trial.keep(Server(trial.shared.module, trial.room, "late", path))
+    with server.connect() as client:
+        began = time.monotonic()
+        client.send("TT.AT", client.ask("TT.NOW")[1] + 900_000_000, "GET", "a")
+        time.sleep(0.1)
+        os.truncate(path, 0)
+        trial.equal("a command that waits", refusal_in(client), "TRUETIME")
+        trial.between("seconds until it is refused", 10, time.monotonic() - began, 12)
+        trial.equal("a command without readings", client.fails("TT.EXEC", "SET", "a", "x"), "TRUETIME")
 
 
 @suite.last_line
