@@ -13,7 +13,7 @@ are off by 2.7 ms in opposite directions, within their uncertainty of 3 ms.
   pooler (postgres_of_recoveries.py).
 - Consumers: the changes of both servers merged in the order of stamps, and a subscription (postgres_of_merges.py).
 
-All is copied, built and started in a temporary folder. fsync is off: no power failure is tried. Where PostgreSQL 15 or its headers are
+All is copied, built and started in a temporary folder. fsync is off: no power failure is tried, but what is synced is looked at. Where PostgreSQL 15 or its headers are
 missing it is left out, with a line.
 """
 import contextlib

@@ -5,6 +5,7 @@ import subprocess
 import time
 
 from harness import postgres
+from harness.notes import Notes
 from harness.postgres import Cluster, Connection, Failed
 from harness.processes import Fault
 from harness.program import read_text, write
@@ -58,6 +59,36 @@ def recoveries(trial):
     trial.equal("a stamp", state_of(stamp_of_new_session, recovered), "TB001")
     recovered.run("SELECT truetime.claim_lease()")
     trial.check("a stamp behind claim_lease", stamp_of_new_session(recovered) > stamps[1], "a stamp is not above one of the old server")
+
+
+@case
+def synced(trial):
+    """Each bound of stamps is synced before it counts, and the folder behind the first one: no loss of power takes back that a stamp was given. Here
+    alone fsync is on."""
+    shared, notes = trial.shared, Notes(trial.room, "server")
+    write(notes.path, b"")
+    os.chmod(notes.path, 0o666)  # the server is another user's
+    behind = ["env", *(f"{name}={notes.environment[name]}" for name in ("LD_PRELOAD", "NOTES"))]
+    cluster = trial.keep(Cluster(shared.installed, shared.room, "y", shared.machines[0].path("shared"), behind=behind))
+    sync, folder = ["fdatasync", os.path.join(cluster.data, "truetime.bound")], ["fsync", cluster.data]
+
+    def look():
+        """The bound that counts, and how many were synced before."""
+        return cluster.run("SELECT bound FROM truetime.status()"), notes.calls().count(sync)
+
+    cluster.run("CREATE EXTENSION truetime; CREATE TABLE kept(id int)")
+    calls = notes.calls()
+    trial.check("the first bound", sync in calls and folder in calls[calls.index(sync):], "the file is not synced, and then its folder")
+    seen, rose = [look()], []
+    while len(rose) < 2 and len(seen) < 40:
+        time.sleep(0.2)
+        stamp_of_new_session(cluster)
+        seen.append(look())
+        if seen[-1][0] != seen[-2][0]:
+            rose.append(seen[-1][1] > seen[-2][1])
+    trial.equal("bounds that are set anew, and whether each is synced", rose, [True, True])
+    cluster.stop()
+    trial.equal("syncs at an end in order", notes.calls().count(sync), seen[-1][1] + 1)
 
 
 def replayed(standby, rows):

@@ -14,42 +14,25 @@ import subprocess
 import time
 
 from harness.faults import Answerer, Spoils, disrupt, full_pipe, honest, page, silent
+from harness.notes import Notes
 from harness.ntp import FakeServer
 from harness.processes import SECOND, Process, free_port, truetime
-from harness.program import compile_c, read_text, write
+from harness.program import read_text, write
 from suites.wiring import suite
 from suites.wiring_checks import HERE, TIMES as TIMES_OF_ALL, TIMES_OF_OTHERS, eventually, lies, places_of, status_of
 from suites.wiring_of_masters import Spoiled
 from suites.wiring_of_pages import get, with_pages
 from suites.wiring_of_seals import FIRST, keys_at, polls_at, scripted, table
 
-FLAGS = "-Wall", "-Wextra", "-Wshadow", "-Wconversion", "-Werror", "-shared", "-fPIC"
 MILLISECOND = SECOND // 1000
 TIMES = TIMES_OF_ALL | TIMES_OF_OTHERS
-
-
-class Notes:
-    """What tools/note_calls.c notes of a program that has this environment."""
-
-    def __init__(self, trial, name):
-        self.path, library = os.path.join(trial.room, f"{name}.notes"), os.path.join(trial.room, "note_calls")
-        if not os.path.exists(library):
-            compile_c("note_calls", trial.room, *FLAGS)
-        self.environment = dict(os.environ, LD_PRELOAD=library, NOTES=self.path)
-
-    def calls(self):
-        return [line.split() for line in read_text(self.path).splitlines()] if os.path.exists(self.path) else []
-
-    def waits(self, kind):
-        """For how long something of this kind is waited for, in nanoseconds, in order."""
-        return sorted({int(words[1]) for words in self.calls() if words[0] == kind and int(words[1]) > 0})
 
 
 class Noted(Process):
     """A command whose calls are noted, behind these words."""
 
     def __init__(self, trial, name, words, prefix=()):
-        self.notes, self.prefix = Notes(trial, name), prefix
+        self.notes, self.prefix = Notes(trial.room, name), prefix
         super().__init__(trial, name, words)
 
     def start(self):
@@ -80,7 +63,7 @@ def is_near(trial, name, waits):
 def waits_of_machines(trial):
     """Its connections, its rounds, its pages and its threads, with a dead source, and a session more than a worker waits for alone."""
     node, port = with_pages(trial, trial.scripts(honest, honest, silent), wait="30ms", poll="70ms", workers=2)
-    notes = Notes(trial, "machine")
+    notes = Notes(trial.room, "machine")
     node.environment = notes.environment
     node.run()
     node.wait_until_ready()
@@ -113,7 +96,7 @@ def waits_for_the_only_session(trial):
     before = resource.getrlimit(resource.RLIMIT_NOFILE)
     resource.setrlimit(resource.RLIMIT_NOFILE, (150, before[1]))
     try:
-        node, notes = trial.node(trial.scripts(honest), workers=2, poll="200ms", floor_ahead="10s"), Notes(trial, "machine")
+        node, notes = trial.node(trial.scripts(honest), workers=2, poll="200ms", floor_ahead="10s"), Notes(trial.room, "machine")
         node.environment = notes.environment
         node.run()
         node.wait_until_ready()
@@ -144,7 +127,7 @@ def waits_for_the_only_session(trial):
 @suite.case()
 def waits_at_the_end(trial):
     """Where standard error takes no line, a machine looks for a fifth of a second whether it does, and then ends all the same."""
-    node, notes = trial.node(trial.scripts(honest)), Notes(trial, "machine")
+    node, notes = trial.node(trial.scripts(honest)), Notes(trial.room, "machine")
     node.environment = notes.environment
     reading, writing = full_pipe()
     node.run(stderr=writing)
@@ -242,7 +225,7 @@ def waits_of_names(trial):
     """A machine looks each second whether a name is to be looked up."""
     host = socket.getaddrinfo("localhost", 0, type=socket.SOCK_DGRAM)[0][4][0]
     local = scripted(trial, {7: FIRST}, honest, host=host)
-    node, notes = trial.node([table(local, 7, "localhost")], keys=keys_at(trial), poll="70ms", wait="30ms"), Notes(trial, "machine")
+    node, notes = trial.node([table(local, 7, "localhost")], keys=keys_at(trial), poll="70ms", wait="30ms"), Notes(trial.room, "machine")
     node.environment = notes.environment
     node.run()
     trial.logs(node, "source_resolved", source=0, address=local.address)
@@ -341,7 +324,7 @@ def lookup_without_an_address_that_is_reached(trial):
 @suite.case()
 def replies_at_once(trial):
     """No reply over TCP waits for others to be sent with."""
-    node, notes = trial.node(trial.scripts(honest)), Notes(trial, "machine")
+    node, notes = trial.node(trial.scripts(honest)), Notes(trial.room, "machine")
     node.environment = notes.environment
     node.run()
     node.wait_until_ready()
@@ -364,7 +347,7 @@ def waits_for_the_address_of_a_master(trial):
 @suite.case()
 def waits_before_a_publication(trial):
     """Rounds follow each other quickly for two seconds where nobody answers, however long `poll` is, and then no more."""
-    node, notes = trial.node(trial.scripts(silent), wait="20ms", poll="1300ms"), Notes(trial, "machine")
+    node, notes = trial.node(trial.scripts(silent), wait="20ms", poll="1300ms"), Notes(trial.room, "machine")
     node.environment = notes.environment
     node.run()
     waits_for(trial, notes, "park", "quick round", "records", others=[(1300 * MILLISECOND, 1300 * MILLISECOND)])
@@ -396,7 +379,7 @@ def waits_of_commands(trial):
 @suite.case()
 def pause_of_masters_that_fail(trial):
     """A master that can receive no packet tries again a tenth of a second later."""
-    spoils, notes = Spoils(trial.room), Notes(trial, "failing")
+    spoils, notes = Spoils(trial.room), Notes(trial.room, "failing")
     spoils.environment |= {"LD_PRELOAD": f"{spoils.environment['LD_PRELOAD']}:{notes.environment['LD_PRELOAD']}", "NOTES": notes.path}
     words = ["master", "--source", "0", "--listen", f"127.0.0.1:{free_port(socket.SOCK_DGRAM)}", "--uncertainty", "5"]
     process = trial.keep(Spoiled(trial, spoils, words))
@@ -493,7 +476,7 @@ def synced_files(trial):
     """Each draft of what has to last is synced before it is renamed, and the folder of the epoch behind that: a loss of power takes no epoch back."""
     vmclock = os.path.join(trial.room, "vmclock0")
     write(vmclock, page(1))
-    node, notes = trial.node(trial.scripts(honest), vmclock=vmclock), Notes(trial, "machine")
+    node, notes = trial.node(trial.scripts(honest), vmclock=vmclock), Notes(trial.room, "machine")
     node.environment = notes.environment
     node.run()
     node.wait_until_ready()
