@@ -215,7 +215,8 @@ def two_addresses_of_a_name(trial):
         began = int(trial.logs(node, "started").get("time", 0))
         trial.between("for how long a silent address is asked", 1.9, (local.times[0] - began) / SECOND if local.times else 0, 5)
         trial.check("setting master", asked() > 2, "the first address is not asked")
-        time.sleep(3.2)
+        # Longer than four rounds, a look of the thread and a round more: by then the other one would be asked.
+        time.sleep(4.5)
         trial.equal("packets to an address behind that of a master that answers", asked(), 0)
         local.acts = [silent]
         trial.check("setting master", eventually(asked, 8), "the first address is not asked again once the other one is silent")
