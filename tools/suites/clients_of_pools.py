@@ -25,6 +25,7 @@ import socket
 import threading
 import time
 
+from harness.processes import free_port
 from suites.clients import Reader, session_probes, suite
 from suites.clients_of_openings import Answering, Listening
 from suites.clients_of_waits import wants
@@ -39,10 +40,10 @@ class Counted(Listening):
     """A stand-in for the service that keeps how many sessions were opened and are open, and the most that were open at once. Where it `refuses`, it
     does so once, at the first line of a commit."""
 
-    def __init__(self):
+    def __init__(self, port=0):
         self.lock, self.open, self.opened, self.most, self.stamp, self.wrong = threading.Lock(), [], 0, 0, 1000, []
         self.refuses = False
-        super().__init__(Releasing)
+        super().__init__(Releasing, ("127.0.0.1", port))
 
     def end_sessions(self):
         """Ends all sessions; they are gone for their clients then."""
@@ -168,11 +169,22 @@ def try_full_pool(trial, name, probe, server):
     said("close", "closed")
 
 
+def try_pool_of_nobody(trial, name, probe, _):
+    """A pool of one session at a port where nobody listens until later: an opening that fails takes no place."""
+    port = free_port(socket.SOCK_STREAM)
+    wants(trial, name, probe.say, f"open tcp {port} 1 2000", "open")
+    wants(trial, name, probe.say, "commits 1 3", "0 stamps, 0 different, 3 errors")
+    with Counted(port) as later:
+        wants(trial, name, probe.say, "commits 2 3", "6 stamps, 6 different, 0 errors")
+        trial.equal(f"{name}: sessions once somebody listens", later.opened, 1)
+        wants(trial, name, probe.say, "close", "closed")
+
+
 @suite.case()
 def pools(trial):
     """Pools beside a stand-in: how many sessions there are, and which of them are used again."""
     for name, words in pool_probes(trial):
-        for attempt in (try_pool, try_full_pool):
+        for attempt in (try_pool, try_full_pool, try_pool_of_nobody):
             with Counted() as server, Reader(words, "pool") as probe:
                 attempt(trial, name, probe, server)
 

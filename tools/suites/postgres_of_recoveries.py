@@ -63,30 +63,35 @@ def recoveries(trial):
 
 @case
 def synced(trial):
-    """Each bound of stamps is synced before it counts, and the folder behind the first one: no loss of power takes back that a stamp was given. Here
-    alone fsync is on."""
+    """Each bound of stamps is synced before it counts, and the folder behind the first one: no loss of power takes back that a stamp was given. With
+    truetime.log_bound the WAL has it before. Here alone fsync is on."""
     shared, notes = trial.shared, Notes(trial.room, "server")
     write(notes.path, b"")
     os.chmod(notes.path, 0o666)  # the server is another user's
     behind = ["env", *(f"{name}={notes.environment[name]}" for name in ("LD_PRELOAD", "NOTES"))]
-    cluster = trial.keep(Cluster(shared.installed, shared.room, "y", shared.machines[0].path("shared"), behind=behind))
+    # Nobody else writes the WAL meanwhile.
+    settings = {"truetime.log_bound": "on", "wal_writer_delay": "10s"}
+    cluster = trial.keep(Cluster(shared.installed, shared.room, "y", shared.machines[0].path("shared"), behind=behind, **settings))
     sync, folder = ["fdatasync", os.path.join(cluster.data, "truetime.bound")], ["fsync", cluster.data]
 
     def look():
         """The bound that counts, and how many were synced before."""
         return cluster.run("SELECT bound FROM truetime.status()"), notes.calls().count(sync)
 
-    cluster.run("CREATE EXTENSION truetime; CREATE TABLE kept(id int)")
+    cluster.run("CREATE EXTENSION truetime")
     calls = notes.calls()
     trial.check("the first bound", sync in calls and folder in calls[calls.index(sync):], "the file is not synced, and then its folder")
     seen, rose = [look()], []
     while len(rose) < 2 and len(seen) < 40:
         time.sleep(0.2)
-        stamp_of_new_session(cluster)
+        cluster.run("BEGIN; SELECT truetime.commit_timestamp(); ROLLBACK")
         seen.append(look())
         if seen[-1][0] != seen[-2][0]:
             rose.append(seen[-1][1] > seen[-2][1])
     trial.equal("bounds that are set anew, and whether each is synced", rose, [True, True])
+    syncs = [call for call in notes.calls()[len(calls):] if call == sync or (call[0] == "fdatasync" and "/pg_wal/" in call[1])]
+    has_wal = [earlier != sync for earlier, later in zip([sync, *syncs], syncs) if later == sync]
+    trial.equal("bounds, and whether the WAL has each before", has_wal[:2], [True, True])
     cluster.stop()
     trial.equal("syncs at an end in order", notes.calls().count(sync), seen[-1][1] + 1)
 

@@ -78,7 +78,7 @@ def commands(trial):
         trial.equal("a command that fails", said.kind, "WRONGTYPE")
         trial.equal("TT.AT", client.ask("TT.AT", client.ask("TT.NOW")[1], "GET", "a"), client.ask("GET", "a"))
         trial.equal("a snapshot that is over", client.fails("TT.AT", stamp - 1, "GET", "a"), "TRUETIME")
-        trial.equal("a time far ahead", client.fails("TT.AT", latest + 5_000_000_000, "GET", "a"), "ERR")
+        trial.equal("a time far ahead", client.fails("TT.AT", client.ask("TT.NOW")[1] + 1_500_000_000, "GET", "a"), "ERR")
         trial.check("a write in TT.AT", isinstance(client.ask("TT.EXEC", "GET", "a")[1], str) and
                     client.fails("TT.AT", client.ask("TT.NOW")[1], "SET", "a", 1), "it is executed")
         for words in (("TT.EXEC",), ("TT.EXEC", "GET"), ("TT.EXEC", "nothing"), ("TT.MULTI", 2, "GET"), ("TT.MULTI", 2, "GET", "a", 1, "GET"),
