@@ -17,8 +17,9 @@ from harness.suite import Suite, total
 suite = Suite(__name__, longest_s=900)
 
 # Wrong bodies, each of which is found within seconds.
-PLANTED = """tt_source/must-fail/upper-end-from-receipt tt_span/wrong/ages-without-widening tt_daemon/must-fail/make-believes-that-nobody-lies
-tt_stamp/wrong/each-seat-counts-for-itself tt_connections/wrong/a-broken-machine-reads tt_epoch/wrong/draft-not-synced""".split()
+PLANTED = """tt_source/must-fail/upper-end-from-receipt tt_span/wrong/ages-without-widening tt_rounds/wrong/what-does-not-open-ends-the-wait
+tt_stamp/wrong/each-seat-counts-for-itself tt_connections/wrong/a-broken-machine-reads tt_epoch/wrong/draft-not-synced
+tt_shared/wrong/writes-the-index-before-the-slot""".split()
 # The first of the seeds whose digests are compared, and how many these are.
 FIRST, COUNT = 1, 40
 DONE = re.compile(r"worlds (\d+) rounds (\d+) lines (\d+) commits (\d+) lives (\d+) wrong 0")
@@ -57,7 +58,7 @@ def stops(trial, program):
     """A run that stops before an event has the events before it."""
     said = run([program, "--seed", str(FIRST), "--until", "500"], seconds=60).out.decode(errors="replace").splitlines()
     numbers = [int(line.split(" ", 1)[0]) for line in said if line[:1].isdigit()]
-    trial.holds(len(numbers) == 100 and numbers[0] <= 400 and numbers[-1] < 600, f"{numbers[:1]} to {numbers[-1:]}")
+    trial.holds(numbers == list(range(400, 500)), f"{numbers[:1]} to {numbers[-1:]}, and 400 to 499 are wanted")
 
 
 @suite.case(programs=("rt",))
