@@ -48,8 +48,8 @@ def parser(about: str) -> argparse.ArgumentParser:
 def add_options(add) -> None:
     """The options of the suites."""
     add("--stamps", metavar="FILE", help="the built tt_stamp_rows, for `clients`; that of this repository where it is left out and there")
-    add("--seconds", type=float, metavar="N", help="how long `service`, `clients`, `fuzz`, `demo`, `failover`, `postgres`, `soak`, `fleet` and `masters` go on")
-    add("--seed", type=int, metavar="N", help="the seed of `judge`, `sweep`, `epochs`, `fuzz`, `failover`, `postgres`, `soak`, `fleet` and `masters`, which is drawn else")
+    add("--seconds", type=float, metavar="N", help="how long `simulation`, `service`, `clients`, `fuzz`, `demo`, `failover`, `postgres`, `soak`, `fleet` and `masters` go on")
+    add("--seed", type=int, metavar="N", help="the seed of `judge`, `sweep`, `simulation`, `epochs`, `fuzz`, `failover`, `postgres`, `soak`, `fleet` and `masters`, which is drawn else")
     add("--number", type=int, metavar="N", help="how many histories `judge` tries, and clients in Python `soak` has")
     add("--proved", type=float, metavar="SECONDS", help="when the `rt ci` began that proved the crates, by `date +%%s`, for `wrong_bodies`")
     add("--long", action="store_true", help="run the cases that take half a minute, too")

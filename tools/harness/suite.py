@@ -19,7 +19,7 @@ from harness.program import in_top
 from harness.trial import Options, Result, Trial
 
 # All suites, in the order of the gate.
-NAMES = ("wrong_bodies examples cases judge bench sweep hostile clients clients_as_installed packages alerts service "
+NAMES = ("wrong_bodies examples cases judge bench sweep simulation hostile clients clients_as_installed packages alerts service "
          "wiring faults sessions breaks slews epochs fuzz demo failover postgres valkey soak fleet masters").split()
 SUITES: dict[str, "Suite"] = {}
 
