@@ -28,11 +28,11 @@ mod TellingCommits
 mod Holding
 mod Serving
 mod Living
-mod WorkedRun
-mod WorkedOrder
+pub mod WorkedRun
+pub mod WorkedOrder
 mod WorkedNode
 mod Working
-mod WorkedLife
+pub mod WorkedLife
 mod BesideSessions
 mod Snapshots
 mod WorkedSnapshots

@@ -52,7 +52,7 @@ failed clock = clock.failures
 abbrev pub unseen : WatchState
 unseen = record { source = record { book = record { number = 0; log_name = 0; cells_name = 0 }; chain = 0 }; drift = 100; items = [] }
 
-abbrev seen : WatchState
+abbrev pub seen : WatchState
 seen = record unseen { items = fused ∷ [] }
 
 abbrev pub clock_at : ℕ → ClockState
@@ -81,7 +81,7 @@ pub allows_early : Allows MachineGives failed ClientSays (station unseen (clock_
 allows_early = record { lease = refl; stampers = refl; ahead = refl; max_width = refl; client = refl; own = refl; given = Err 801; look = record { looked = Err Nothing; looks = looks_early; admits = refl }; rest = (refl, record { seat = refl; book = refl }) }
 
 -- the others read what the daemon has published by then
-looks_at : (items : List Publication) (last clock : ℕ) → IsPrefix items (fused ∷ []) → last ≤ clock → 112 ≤ clock → clock ≤ 1000 → Looks MachineGives failed (record unseen { items = items }) (clock_at last) (Ok (read_at clock)) seen (clock_at clock)
+pub looks_at : (items : List Publication) (last clock : ℕ) → IsPrefix items (fused ∷ []) → last ≤ clock → 112 ≤ clock → clock ≤ 1000 → Looks MachineGives failed (record unseen { items = items }) (clock_at last) (Ok (read_at clock)) seen (clock_at clock)
 looks_at items last clock begins rises late early = record {
   same = (refl, refl);
   seen = begins;
@@ -206,10 +206,10 @@ abbrev served : Served
 served = record { lines = 3; refused = 2 }
 
 -- the line that asks for commit 1, with no floor
-abbrev commit_line : List ℕ
+abbrev pub commit_line : List ℕ
 commit_line = commit_word ++ 32 ∷ 49 ∷ 32 ∷ 48 ∷ []
 
-spells_commit : ended commit_line ≡ spelling_of (request.Commit 1 0)
+pub spells_commit : ended commit_line ≡ spelling_of (request.Commit 1 0)
 spells_commit =
     let line : List ℕ → List ℕ → List ℕ = λ number floor. commit_word ++ ((32 ∷ number) ++ ((32 ∷ floor) ++ [])) ++ 10 ∷ [] in
     sym (ap (λ (number : List ℕ). line number (decimal 0)) (decimal_digit 1 (omega arith)) ∙ ap (λ (floor : List ℕ). line (49 ∷ []) floor) (decimal_digit 0 (omega arith)))
@@ -225,7 +225,7 @@ no_end (b ∷ line) all = All-cons IsNoEnd b line all.0 (no_end line all.1)
 no_end_now : HasNoEnd now_word
 no_end_now = no_end now_word (λ is. absurd (omega (arith, is)), (λ is. absurd (omega (arith, is)), (λ is. absurd (omega (arith, is)), tt)))
 
-no_end_commit : HasNoEnd commit_line
+pub no_end_commit : HasNoEnd commit_line
 no_end_commit = no_end commit_line (λ is. absurd (omega (arith, is)), (λ is. absurd (omega (arith, is)), (λ is. absurd (omega (arith, is)), (λ is. absurd (omega (arith, is)), (λ is. absurd (omega (arith, is)), (λ is. absurd (omega (arith, is)), (λ is. absurd (omega (arith, is)), (λ is. absurd (omega (arith, is)), (λ is. absurd (omega (arith, is)), (λ is. absurd (omega (arith, is)), tt))))))))))
 
 abbrev bytes : List ℕ
@@ -398,7 +398,7 @@ is_assumed = record {
 abbrev times : List CallTimes
 times = record { came = 1000; read = 1001; answered = 1002 } ∷ call_at 120 ∷ call_at 150 ∷ record { came = 1060; read = 1061; answered = 1062 } ∷ []
 
-is_taken : (last clock : ℕ) → last ≤ clock → 112 ≤ clock → clock ≤ 1000 → IsTakenAt MachineGives 100 (moments_in start (timeline_of 0)) seen (clock_at last) (clock_at clock) (read_at clock) (900 + clock)
+pub is_taken : (last clock : ℕ) → last ≤ clock → 112 ≤ clock → clock ≤ 1000 → IsTakenAt MachineGives 100 (moments_in start (timeline_of 0)) seen (clock_at last) (clock_at clock) (read_at clock) (900 + clock)
 is_taken last clock rises late early = record {
   last = fused;
   clock = clock;

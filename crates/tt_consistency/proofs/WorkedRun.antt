@@ -26,9 +26,9 @@ span = record { lo = 1000; hi = 1008 }
 abbrev bytes_for : ℕ → List ℕ
 bytes_for m = spelling_of2 (message.Answer (record { machine = m; source = 0; nonce = 1; epoch = 1; span = span }))
 
--- each machine has one source, and its clock may drift by 100 parts per million
+-- each machine has one source and two workers, and its clock may drift by 100 parts per million
 abbrev pub one : Configuration
-one = record { sources = 1; faulty = 0; drift = 100; workers = 1 }
+one = record { sources = 1; faulty = 0; drift = 100; workers = 2 }
 
 -- the life begins at the true time 990, when the clock shows 90
 abbrev pub start : Start

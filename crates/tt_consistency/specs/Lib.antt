@@ -20,3 +20,4 @@ pub mod NodeCuts
 pub mod Coming
 pub mod Sealed
 pub mod Terms
+pub mod Sequencer

@@ -6,3 +6,7 @@ pub mod Following
 pub mod Growing
 pub mod Threading
 pub mod WorkedMerge
+pub mod Doing
+pub mod Logging
+pub mod Lives
+pub mod WorkedLives

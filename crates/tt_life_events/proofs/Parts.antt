@@ -1,9 +1,26 @@
 -- What a merge says of one of its parts, where the other part does not touch it.
-use Rattle.std.proofs.Common.{◌≡◌, ℕ, suc, ◌≤◌, List, [], ◌∷◌, inl, inr, sym, ap, ◌∙◌, subst, arith}
+use Rattle.std.proofs.Common.{◌≡◌, ℕ, suc, ◌+◌, ◌≤◌, List, [], ◌∷◌, length, inl, inr, sym, ap, ◌∙◌, subst, arith}
 use Rattle.std.specs.List.{AllByRecursion}
 use Rattle.tt_life_events.specs.Merging.{Deed, Done, IsMerge, IsMergeOf}
 
 module _ {A S : Type 0} where
+  -- what holds of each element of the parts holds of each element of a merge
+  pub all-merge : (P : Done A S → Type 0) (one other all : List (Done A S)) → IsMerge one other all → AllByRecursion P one → AllByRecursion P other → AllByRecursion P all
+  all-merge P one other [] is a b = tt
+  all-merge P one other (x ∷ all) (inl (rest, here, is)) a b =
+      let mine : AllByRecursion P (x ∷ rest) = subst (AllByRecursion P) here a in (mine.0, all-merge P rest other all is mine.1 b)
+  all-merge P one other (x ∷ all) (inr (rest, here, is)) a b =
+      let theirs : AllByRecursion P (x ∷ rest) = subst (AllByRecursion P) here b in (theirs.0, all-merge P one rest all is a theirs.1)
+
+  pub all-workers : (P : Done A S → Type 0) (workers : List (List (Done A S))) (all : List (Done A S)) → IsMergeOf workers all → AllByRecursion (AllByRecursion P) workers → AllByRecursion P all
+  all-workers P [] all is each = subst (AllByRecursion P) (sym is) tt
+  all-workers P (one ∷ workers) all (others, others_are, is) each = all-merge P one others all is each.0 (all-workers P workers others others_are each.1)
+
+  pub merge-size : (one other all : List (Done A S)) → IsMerge one other all → length all ≡ length one + length other
+  merge-size one other [] is = omega (arith, ap length is.0, ap length is.1)
+  merge-size one other (x ∷ all) (inl (rest, here, is)) = omega (arith, merge-size rest other all is, ap length here)
+  merge-size one other (x ∷ all) (inr (rest, here, is)) = omega (arith, merge-size one rest all is, ap length here)
+
   -- what a list leaves, by what each thing that is done leaves
   abbrev pub left_by : {X : Type 0} → (Deed A S → X → X) → X → List (Done A S) → X
   left_by step begun [] = begun

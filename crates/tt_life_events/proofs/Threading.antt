@@ -21,11 +21,11 @@ use Rattle.tt_consistency.specs.Steps.{Kept, Step, after_step, after_steps, new_
 use Rattle.tt_consistency.specs.Timeline.{AreOf, Happening, IsAmong, IsForward, IsTimeline, Timed, clock_of_step, last_shown, last_time, moment_of, moments_told, step_of, steps_told}
 use Rattle.tt_consistency.specs.Timeline as telling
 use Rattle.tt_life_events.specs.Merging.{AreInOrder, Deed, Does, IsMerge, IsMergeBefore, IsMergeOf, IsOneListWith, Stamps, if_stamp, stamps_in}
-use Rattle.tt_life_events.specs.Acts.{Act, CanBe, Gives, Happens, IsNext, LifeDone, Reads, Waiting, entries_in, if_given, if_happens, published_in, reading_in, seen_by, seen_in, shown_by, shown_in, time_in, timeline_in, waits_in}
+use Rattle.tt_life_events.specs.Acts.{Act, AllReadAs, CanBe, Gives, Happens, IsNext, LifeDone, Reads, ReadsAs, Waiting, entries_in, if_given, if_happens, published_in, reading_in, seen_by, seen_in, shown_by, shown_in, time_in, timeline_in, waits_in}
 use Rattle.tt_life_events.specs.Threads.{AreOfWorkers, AreOwn, AreSince, AreThreads, Begun, ClockRises, IsOwn, begun_by, begun_in, daemon_list, worker_of}
 use Rattle.tt_life_events.proofs.Growing.{Grows, step-grows}
 use Rattle.tt_life_events.proofs.Merges.{before-merge, life-merge, merge-swap}
-use Rattle.tt_life_events.proofs.Parts.{AreNumbered, HoldOfEach, all-hold, left_by, part-left}
+use Rattle.tt_life_events.proofs.Parts.{AreNumbered, HoldOfEach, all-hold, all-merge, all-workers, left_by, part-left}
 
 -- ---- what a worker has is what its own list says
 
@@ -88,19 +88,6 @@ module _ (config : Configuration) (moments : List Moment) (published : List Fuse
   workers-own : (workers : List (List LifeDone)) (all : List LifeDone) → IsMergeOf workers all → AreOfWorkers config moments published 0 workers → HoldOfEach worker_of Own all
   workers-own workers all is are =
       (all-hold worker_of Own (λ one other every done merged none own. own-carries one other every done.at done.deed merged none own) 0 workers all is (numbered 0 workers are)).0
-
--- ---- what is before the beginning
-
-since-merge : (begun : ℕ) (one other all : List LifeDone) → IsMerge one other all → AreSince begun one → AreSince begun other → AreSince begun all
-since-merge begun one other [] is a b = tt
-since-merge begun one other (x ∷ all) (inl (rest, here, is)) a b =
-    let mine : AreSince begun (x ∷ rest) = subst (AreSince begun) here a in (mine.0, since-merge begun rest other all is mine.1 b)
-since-merge begun one other (x ∷ all) (inr (rest, here, is)) a b =
-    let theirs : AreSince begun (x ∷ rest) = subst (AreSince begun) here b in (theirs.0, since-merge begun one rest all is a theirs.1)
-
-since-workers : (begun : ℕ) (workers : List (List LifeDone)) (all : List LifeDone) → IsMergeOf workers all → AllByRecursion (AreSince begun) workers → AreSince begun all
-since-workers begun [] all is since = subst (AreSince begun) (sym is) tt
-since-workers begun (one ∷ workers) all (others, others_are, is) since = since-merge begun one others all is since.0 (since-workers begun workers others others_are since.1)
 
 -- ---- one list
 
@@ -326,7 +313,7 @@ timeline-list : (timeline : List Timed) → timeline_in (daemon_list timeline) �
 timeline-list [] = refl
 timeline-list (timed ∷ timeline) = ap (λ (l : List Timed). timed ∷ l) (timeline-list timeline)
 
-entries-stamps : (past : List LifeDone) → entries_in past ≡ entries_in (stamps_in past)
+pub entries-stamps : (past : List LifeDone) → entries_in past ≡ entries_in (stamps_in past)
 entries-stamps [] = refl
 entries-stamps (done ∷ past) = by_deed (entries-stamps past) done.deed refl
   where
@@ -376,6 +363,16 @@ threads-list config m number start timeline workers seats history fits threads =
     (daemon-in_order start.at start.clock max_time timeline threads.forward (last-in_time start.at start.clock timeline fits threads.forward))
     (daemon-stamps timeline) threads.in_order threads.stamps_in_order threads.stamps
 
+-- what happened between the daemon and its sources is the timeline
+pub threads-told : (config : Configuration) (m number : ℕ) (start : Start) (timeline : List Timed) (workers : List (List LifeDone)) (seats : ℕ) (history all : List LifeDone)
+    → AreThreads config m number start timeline workers seats history → IsOneListWith max_time (daemon_list timeline) workers history all → timeline_in all ≡ timeline
+threads-told config m number start timeline workers seats history all threads one =
+    let moments = moments_in start timeline in
+    let published = (after_steps (new_kept config m number) (steps_told timeline)).published in
+    let own = workers-own config moments published workers one.of_workers one.workers_are threads.own in
+    let merged = before-merge (daemon_list timeline) one.of_workers all one.merge in
+    timeline-merge config m number start moments published (daemon_list timeline) one.of_workers all merged own ∙ timeline-list timeline
+
 pub threads-can : (config : Configuration) (m number : ℕ) (start : Start) (timeline : List Timed) (workers : List (List LifeDone)) (seats : ℕ) (history all : List LifeDone)
     → AreThreads config m number start timeline workers seats history → IsOneListWith max_time (daemon_list timeline) workers history all → ClockRises start.clock all
     → CanBe config m number start all × IsLegalRun seats (entries_in all)
@@ -384,9 +381,9 @@ threads-can config m number start timeline workers seats history all threads one
     let published = (after_steps (new_kept config m number) (steps_told timeline)).published in
     let own = workers-own config moments published workers one.of_workers one.workers_are threads.own in
     let merged = before-merge (daemon_list timeline) one.of_workers all one.merge in
-    let told : timeline_in all ≡ timeline = timeline-merge config m number start moments published (daemon_list timeline) one.of_workers all merged own ∙ timeline-list timeline in
+    let told : timeline_in all ≡ timeline = threads-told config m number start timeline workers seats history all threads one in
     let same : published ≡ published_in config m number all = ap (λ (t : List Timed). (after_steps (new_kept config m number) (steps_told t)).published) (sym told) in
-    let since = since-merge start.at (daemon_list timeline) one.of_workers all merged (daemon-since start.at start.clock timeline threads.forward) (since-workers start.at workers one.of_workers one.workers_are threads.since) in
+    let since = all-merge (λ (done : LifeDone). start.at ≤ done.at) (daemon_list timeline) one.of_workers all merged (daemon-since start.at start.clock timeline threads.forward) (all-workers (λ (done : LifeDone). start.at ≤ done.at) workers one.of_workers one.workers_are threads.since) in
     let entries : entries_in all ≡ entries_in history = entries-stamps all ∙ ap entries_in one.stamps in (
       can-all config m number start moments published all (daemon_list timeline) one.of_workers max_time [] one.merge
           (daemon-of config m number start moments published start.at start.clock timeline threads.named threads.forward (λ moment among. among-left moment (moments_told timeline) (record { clock = start.clock; time = start.at } ∷ []) among))
@@ -394,3 +391,19 @@ threads-can config m number start timeline workers seats history all threads one
           (λ k beyond within. absurd (omega (arith, ap length same, beyond, within))),
       subst (IsLegalRun seats) (sym entries) threads.legal,
     )
+
+-- ---- readings
+
+module _ (config : Configuration) (m number : ℕ) (start : Start) (moments : List Moment) (published : List FusedSpan) where
+  read-as : (deed : Deed Act Gives) (past : List LifeDone) (rest : List FusedSpan) → IsNext config m number start.clock past deed → published ≡ published_in config m number past ++ rest → ReadsAs config m number published past deed
+  read-as (Does (Happens h)) past rest can are = tt
+  read-as (Does (Reads w clock k asked)) past rest can are =
+      ap (λ (p : FusedSpan). reading_at config.drift p clock)
+      (sym (ap (λ (l : List FusedSpan). publication_at l k) are ∙ in_part config m number start moments published (published_in config m number past) rest k can.3 can.4))
+  read-as (Stamps given) past rest can are = tt
+
+  pub all-read-as : (all : List LifeDone) (rest : List FusedSpan) → CanBe config m number start all → published ≡ published_in config m number all ++ rest → AllReadAs config m number published all
+  all-read-as [] rest can are = tt
+  all-read-as (done ∷ past) rest can are =
+      let (more, before) = before-deed config m number start moments published done.at done.deed past rest are in
+      (read-as done.deed past more can.2 before, all-read-as past more can.3 before)

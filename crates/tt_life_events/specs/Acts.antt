@@ -199,3 +199,16 @@ module _ (configs : List Configuration) (m number : ℕ) where
     pub published : publications_of (config_at configs m) (events_in base m all ++ base) (life_at base m) ≡ published_in (config_at configs m) m number all
     pub stamps : stamps_of (config_at configs m) (events_in base m all ++ base) (life_at base m) ≡ stamps_alone (entries_in all)
     pub replies : AllReplyAs base all
+
+-- ---- what the life says of them
+
+-- where this was published in all, the oldest first: the reading that the model replies with is the one from the publication of its number
+module _ (config : Configuration) (m number : ℕ) (published : List FusedSpan) where
+  abbrev pub ReadsAs : List LifeDone → Deed Act Gives → Type 0
+  ReadsAs past (Does (Reads worker clock publication asked)) = reading_in config m number past clock publication ≡ reading_at config.drift (publication_at published publication) clock
+  ReadsAs past _ = Unit {0}
+
+  -- so is each
+  abbrev pub AllReadAs : List LifeDone → Type 0
+  AllReadAs [] = Unit {0}
+  AllReadAs (done ∷ past) = ReadsAs past done.deed × AllReadAs past

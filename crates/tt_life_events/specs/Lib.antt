@@ -1,3 +1,5 @@
 pub mod Merging
 pub mod Acts
 pub mod Threads
+pub mod Turns
+pub mod Lists
