@@ -62,7 +62,7 @@ FILES = {
         "usr/lib/sysusers.d/truetime.conf": "packaging/truetime.sysusers", "usr/lib/tmpfiles.d/truetime.conf": "packaging/truetime.tmpfiles",
         **{f"{SHARED}/{name}": f"packaging/{name}" for name in ("alerts.yml", "dashboard.json")},
         **{f"usr/share/doc/truetime/examples/{name}": f"packaging/{name}" for name in ("node.toml", "time.master")},
-        **{f"usr/share/doc/truetime/{name}.md": f"docs/{name}.md" for name in DOCUMENTS},
+        **{f"usr/share/doc/truetime/{name}.md": None for name in DOCUMENTS},
     },
 }
 if not postgres.missing_headers():
@@ -178,7 +178,9 @@ def files(trial):
         made = file.removesuffix(".gz").replace(UNITS, f"usr/{UNITS}")
         if os.path.exists(f"{by_hand}/{made}"):
             of_package = f"{trial.room}/truetime/{file}"
-            meant = read(source) if source else read(trial.program) if made == "usr/bin/ttd" else gzip.decompress(read(of_package))
+            of_package = of_package if os.path.exists(of_package) else f"{of_package}.gz"
+            unpack = gzip.decompress if of_package.endswith(".gz") else bytes
+            meant = read(source) if source else read(trial.program) if made == "usr/bin/ttd" else unpack(read(of_package))
             trial.check(f"{made} of packaging/install", read(f"{by_hand}/{made}") == meant, f"it is not {source or 'that of the package'}")
     try_module(trial, f"{trial.room}/python3-truetime/{MODULE}-{VERSION}.dist-info")
 
@@ -214,6 +216,58 @@ def try_program(trial, made):
     for name, path in packages_in(f"{trial.shared}/now").items():
         found = re.split("[~+]git", run(["dpkg-deb", "-f", path, "Version"]).said)[0]
         trial.equal(f"version of {name}", found, VERSION)
+
+
+# A path of the source, and what a document says that names some.
+OF_SOURCE = re.compile(r"(?<![\w/.-])(?:bench|clients|crates|demo|docs|examples|packaging|tests|tools)/[\w./-]*")
+SAYS_SOURCE = re.compile(r"those of the source|[Ii]n a clone")
+
+
+def documents_below(root):
+    """The texts of the documents below a root, by their paths there."""
+    below = (name for name in files_below(root) if re.fullmatch(r"usr/share/doc/.*\.md(\.gz)?", name))
+    return {name: (gzip.decompress if name.endswith(".gz") else bytes)(read(f"{root}/{name}")).decode() for name in below}
+
+
+def anchors_of(text):
+    """What a link to a heading of this text has behind its #."""
+    return {re.sub(r"[^\w -]", "", line.lstrip("# ").lower()).replace(" ", "-") for line in text.splitlines() if line.startswith("#")}
+
+
+def dead_names(root, texts):
+    """What these documents name that is not below this root: links, files and documents. A path of the source is one, and is said to be."""
+    for path, text in texts.items():
+        for target in re.findall(r"\]\(([^()\s]+)\)", text):
+            file, _, anchor = target.partition("#")
+            linked = os.path.normpath(os.path.join(os.path.dirname(path), file)) if file else path
+            if not re.match("[a-z]+:", target) and (linked not in texts or anchor and anchor not in anchors_of(texts[linked])):
+                yield f"{path}: the link {target}"
+        for name in re.findall(r"(?<![\w.])/usr/[\w./-]*\w", text):
+            if not os.path.exists(f"{root}{name}") and not os.path.exists(name):
+                yield f"{path}: the file {name}"
+        for name in OF_SOURCE.findall(text):
+            if not SAYS_SOURCE.search(text) or not os.path.exists(in_top(name.rstrip("."))) and "/out/" not in name:
+                yield f"{path}: the path {name}"
+        for name in re.findall(r"(?<![\w/])[A-Z_]+\.md", text):
+            if not any(os.path.basename(other) == name for other in texts) and not SAYS_SOURCE.search(text):
+                yield f"{path}: the document {name}"
+
+
+@suite.case(programs=BUILDS)
+def names_in_documents(trial):
+    """Each link of an installed document leads to another one, each path is one of a file that is there, or of the source, which is said. The words
+    are those of the repository."""
+    root = unpacked(trial, f"{trial.shared}/now")
+    texts = documents_below(root)
+    trial.equal("documents", len(texts), len(DOCUMENTS) + 2 * (POSTGRES in FILES))
+    yield from dead_names(root, texts)
+    for name in DOCUMENTS:
+        found, meant = texts[f"usr/share/doc/truetime/{name}.md"].splitlines(), read_text(f"docs/{name}.md").splitlines()
+        wrong = [line for line, old in zip(found, meant) if line != old and "](" not in old and "`packaging/" not in old]
+        trial.equal(f"lines of {name}", (wrong, [line for line in found[len(meant):] if line and not SAYS_SOURCE.search(line)]), ([], []))
+    for wrong in ("[a](LIMIT.md)", "[a](../clients/README.md)", "[a](LIMITS.md#nothing)", "`/usr/share/truetime/alert.yml`", "`tools/chek`", "see SPEEDS.md"):
+        page = {**texts, "usr/share/doc/truetime/page.md": wrong}
+        trial.check(f"{wrong} that is wrong", len(list(dead_names(root, page))) > len(list(dead_names(root, texts))), "it is not seen")
 
 
 @suite.case(programs=(*BUILDS, "man"))
