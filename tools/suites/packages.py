@@ -367,11 +367,13 @@ class Host:
         return run([*self.inside, *words], seconds=60, **how)
 
     def dpkg(self, trial, what, *words):
-        """Calls dpkg, which has to succeed; what systemctl was told, but to read its files again."""
+        """Calls dpkg, which has to succeed; what systemctl was told, but to read its files again, which it has to be unless all is purged."""
         write(f"{self.root}/systemctl.log", b"")
         ran = self.do("dpkg", *words)
         trial.check(what, ran.status == 0, f"status {ran.status}\n{ran.said[-1500:]}{ran.error[-1500:]}")
-        return [line for line in read_text(f"{self.root}/systemctl.log").splitlines() if line not in ("daemon-reload", "--system daemon-reload")]
+        told = read_text(f"{self.root}/systemctl.log").splitlines()
+        trial.check(f"units, at the {what}", "--system daemon-reload" in told or what == "purge", f"they are not read again: {told}")
+        return [line for line in told if line not in ("daemon-reload", "--system daemon-reload")]
 
     def bring(self, folder, names=tuple(OTHERS)):
         """Copies packages of a folder to it; their paths there."""

@@ -220,7 +220,7 @@ def ready(trial):
     with contextlib.ExitStack() as stack:
         masters_on(host, stack)
         waiting.join(20)
-        trial.equal("with masters", [ran.answer for ran in ended], [("", 0)])
+        trial.equal("with masters", [(*ran.answer, ran.error) for ran in ended], [("", 0, "")])
         trial.equal("asked then", host.do(*ASK).status, 0)
         machine.close()
         put(host, "machine = 9")
@@ -228,7 +228,8 @@ def ready(trial):
         trial.equal("of a machine that has ended", (machine.start().status, machine.main.wait()), (1, 2))
         trial.between("seconds until that is told", 0, time.monotonic() - began, 5)
         write(f"{host.root}/{SETTINGS}", read_text(f"{host.root}/{SETTINGS}").replace("machine = 9", GOOD).replace(":5601", ":0").encode())
-        trial.equal("where the system chooses the port", machine.start().answer, ("", 0))
+        last = machine.start()
+        trial.equal("where the system chooses the port", (*last.answer, last.error), ("", 0, ""))
     trial.equal("a machine goes on whatever ExecStartPost says", re.findall("^ExecStartPost=(.)", machine.text, re.MULTILINE), ["-"])
 
 
