@@ -9,10 +9,13 @@
 //!
 //! - `turns`: [`answer_turn`], one turn, and what came of it.
 //! - `tallies`: [`Tally`], what some turns counted.
+//! - `laws`: [`answer_laws`], the law of turns over sealed requests.
 #![tactic(auto)]
 
+mod laws;
 mod tallies;
 mod turns;
 
+pub use laws::answer_laws;
 pub use tallies::{REASONS, Tally, place_of};
 pub use turns::{Turn, answer_turn};

@@ -42,5 +42,6 @@ mod CuttingNodes
 mod WorkedBreak
 mod Coming
 mod Sealing
+mod Mastering
 mod Terming
 mod WorkedTerms

@@ -19,5 +19,6 @@ pub mod Cuts
 pub mod NodeCuts
 pub mod Coming
 pub mod Sealed
+pub mod Masters
 pub mod Terms
 pub mod Sequencer

@@ -46,7 +46,7 @@
 //! - `orders`: `session_laws`, `lease_laws`, `reply_laws`, `order_laws` and `sequencer_laws`.
 //! - `services`: `machine_laws`, `service_laws`, `consistency_laws` and `node_laws`.
 //! - `lives`: `life_laws`. `cuts`: `cut_laws` and `broken_life_laws`. `node_cuts`: `node_cut_laws`. `stampers`:
-//!   `stamper_laws`. `terms`: `term_laws`. `sealed`: `seal_laws`.
+//!   `stamper_laws`. `terms`: `term_laws`. `sealed`: `seal_laws`, `master_laws`.
 #![tactic(auto)]
 
 mod cuts;
@@ -66,7 +66,7 @@ pub use meeting::meeting_laws;
 pub use node_cuts::node_cut_laws;
 pub use orders::{lease_laws, order_laws, reply_laws, sequencer_laws, session_laws};
 pub use runs::{assumption_laws, reading_laws, round_laws, step_laws, timeline_laws};
-pub use sealed::seal_laws;
+pub use sealed::{master_laws, seal_laws};
 pub use services::{consistency_laws, machine_laws, node_laws, service_laws};
 pub use stampers::stamper_laws;
 pub use terms::term_laws;

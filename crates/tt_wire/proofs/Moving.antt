@@ -135,6 +135,17 @@ unfolding moved moved_back
 moved-moved_back ahead bytes fits small =
     respelled-undone (back_nonce ahead) (moved_nonce ahead) bytes (read_of2 bytes) small refl (λ nonce is. back_nonce-undone ahead nonce fits is)
 
+IsBytes-respelled : (f : ℕ → ℕ) (bytes : List ℕ) (r : Result Message2 PollFault) → IsBytes bytes → r ≡ read_of2 bytes → ((nonce : ℕ) → IsNonce nonce → IsNonce (f nonce)) → IsBytes (respelled f r bytes)
+IsBytes-respelled f bytes (Err e) small is inside = small
+IsBytes-respelled f bytes (Ok m) small is inside =
+    let found = spelling_of2-read bytes m small (sym is) in
+    IsBytes-spelling_of2 (with_nonce m (f (nonce_of m))) (with_nonce-in m (f (nonce_of m)) found.0 (inside (nonce_of m) (nonce_in m found.0)))
+
+pub IsBytes-moved_back : (ahead : ℕ) (bytes : List ℕ) → ahead < 2 ^ 64 → IsBytes bytes → IsBytes (moved_back ahead bytes)
+unfolding moved_back
+IsBytes-moved_back ahead bytes fits small =
+    IsBytes-respelled (back_nonce ahead) bytes (read_of2 bytes) small refl (λ nonce is. (back_nonce-undone ahead nonce fits is).in_range)
+
 pub length-moved : (ahead : ℕ) (bytes : List ℕ) → IsBytes bytes → length (moved ahead bytes) ≡ length bytes
 unfolding moved
 length-moved ahead bytes small = length-respelled (moved_nonce ahead) bytes (read_of2 bytes) small refl

@@ -54,7 +54,7 @@ incoming_of-open peer bytes small = ap (λ (message : List ℕ). Ok (incoming_as
 -- ---- what is handed up came sealed
 
 -- the message of a sealing is bytes where the sealing is
-IsBytes-sealed : (message : List ℕ) (key : SealKey) → IsBytes (sealing_of message key) → IsBytes message
+pub IsBytes-sealed : (message : List ℕ) (key : SealKey) → IsBytes (sealing_of message key) → IsBytes message
 unfolding sealing_of
 IsBytes-sealed message key small =
     let four = to_be_bytes w32 key.number in
