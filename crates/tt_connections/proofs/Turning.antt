@@ -47,6 +47,7 @@ watch-both old mid new first second = record {
 pub seat-same : (old new : SeatState) → new ≡ old → SeatGoesOn old new
 seat-same old new same = record {
   table = ap (λ (s : SeatState). s.table) same;
+  seats = ap (λ (s : SeatState). s.seats) same;
   numbers = ap (λ (s : SeatState). s.numbers) same;
   seen = ([], ap (λ (s : SeatState). s.seen) same);
 }
@@ -54,6 +55,7 @@ seat-same old new same = record {
 pub seat-both : (old mid new : SeatState) → SeatGoesOn old mid → SeatGoesOn mid new → SeatGoesOn old new
 seat-both old mid new first second = record {
   table = second.table ∙ first.table;
+  seats = second.seats ∙ first.seats;
   numbers = second.numbers ∙ first.numbers;
   seen = Continues-trans old.seen mid.seen new.seen first.seen second.seen;
 }
@@ -81,11 +83,12 @@ post-both old mid new first second = record {
 
 -- ---- a seat that was asked for a stamp
 seat-looks : (old new : SeatState) → SeatLooks old new → SeatGoesOn old new
-seat-looks old new looks = record { table = looks.same.table; numbers = looks.same.numbers; seen = looks.after }
+seat-looks old new looks = record { table = looks.same.table; seats = looks.same.seats; numbers = looks.same.numbers; seen = looks.after }
 
 seat-stamps : (floor : ℕ) (lease reading : Interval) (old new : SeatState) (stamped : Result ℕ StampFault) → Stamps floor lease reading old stamped new → SeatGoesOn old new
 seat-stamps floor lease reading old new (Ok s) stamps = record {
   table = stamps.1.same.table;
+  seats = stamps.1.same.seats;
   numbers = stamps.1.same.numbers;
   seen = (record { number = stamps.1.number; latest = reading.hi; floor = floor; lease = lease; stamp = s } ∷ stamps.1.between, stamps.1.after);
 }

@@ -13,9 +13,10 @@ pub record WatchGoesOn (old new : WatchState) : Type 0 where
   pub drift : new.drift ≡ old.drift
   pub seen : IsPrefix old.items new.items
 
--- a seat went on: it is of the same sequencer, has the same numbers, and has seen all that it had seen
+-- a seat went on: it is of the same sequencer, which has as many seats, has the same numbers, and has seen all that it had seen
 pub record SeatGoesOn (old new : SeatState) : Type 0 where
   pub table : new.table ≡ old.table
+  pub seats : new.seats ≡ old.seats
   pub numbers : new.numbers ≡ old.numbers
   pub seen : Continues old.seen new.seen
 
