@@ -10,3 +10,7 @@ pub mod Doing
 pub mod Logging
 pub mod Lives
 pub mod WorkedLives
+pub mod Begun
+pub mod FirstTurns
+pub mod CutLists
+pub mod WorkedCuts

@@ -49,9 +49,10 @@ use Rattle.tt_life_events.specs.Lists.{HasOneList, IsWorkedList}
 use Rattle.tt_life_events.specs.Merging.{AreInOrder, Does, IsMerge, IsMergeOf, IsOneListWith, Stamps, stamps_in}
 use Rattle.tt_life_events.specs.Threads.{AreOfWorkers, AreOwn, AreSince, ClockRises, daemon_list}
 use Rattle.tt_life_events.specs.Turns.{AllTurnsOf, AreTimed, IsListOf, TurnsOf, WorkTimes}
+use Rattle.tt_life_events.proofs.CutLists.{cut-one}
 use Rattle.tt_life_events.proofs.Doing.{begun-here, seen-here}
 use Rattle.tt_life_events.proofs.Following.{restarts-unworked}
-use Rattle.tt_life_events.proofs.Lives.{life-one}
+use Rattle.tt_life_events.proofs.Lives.{whole as whole_cut}
 use Rattle.tt_life_events.proofs.Merges.{before-merge}
 use Rattle.tt_life_events.proofs.Parts.{all-merge, all-workers, merge-size}
 
@@ -184,7 +185,7 @@ module _ (w : ℕ) (old new : SeatState) (begins passes : ℕ) where
 
   module _ (late : 112 ≤ begins) (later : begins + 3 ≤ passes) (early : passes ≤ 1000) (gave : GaveStamp old new (910 + begins) 0 whole (910 + begins)) (own : new.own ≡ entry w (910 + begins) ∷ old.own)
       (says : PassesAt ClientSays begun 1 (Ok true) released (Ok (read_at passes))) where
-    pub allows_begin : Allows MachineGives failed ClientSays station of_begin begun
+    unfoldable pub allows_begin : Allows MachineGives failed ClientSays station of_begin begun
     allows_begin = record {
       lease = refl;
       stampers = refl;
@@ -461,6 +462,15 @@ begins-0 = begins-life (one ∷ []) 0 990 90 0 (omega arith) (omega arith) (omeg
 pub unworked-0 : IsUnworked one [] (life_at [] 0)
 unworked-0 = restarts-unworked one 0 990 90 0 (life_at [] 0)
 
+pub are-since : AllByRecursion (AreSince 990) (list_0 ∷ list_1 ∷ [])
+are-since = (are_since 0 (seat_of 0) seat_0 120 150 late_0 later_0 early_0 gave_0 refl says_0, (are_since 1 (seat_of 1) seat_1 140 200 late_1 later_1 early_1 gave_1 refl says_1, tt))
+
+pub are-in_order : AllByRecursion (AreInOrder max_time) (list_0 ∷ list_1 ∷ [])
+are-in_order = (in_order 0 (seat_of 0) seat_0 120 150 late_0 later_0 early_0 gave_0 refl says_0, (in_order 1 (seat_of 1) seat_1 140 200 late_1 later_1 early_1 gave_1 refl says_1, tt))
+
+pub are-shown : AllByRecursion (AllByRecursion Shows) (list_0 ∷ list_1 ∷ [])
+are-shown = (shows 0 (seat_of 0) seat_0 120 150 late_0 later_0 early_0 gave_0 refl says_0, (shows 1 (seat_of 1) seat_1 140 200 late_1 later_1 early_1 gave_1 refl says_1, tt))
+
 abbrev pub has : HasOneList (one ∷ []) [] MachineGives failed ClientSays 1 life start timeline turns both
 has = record {
   lists = list_0 ∷ list_1 ∷ [];
@@ -469,43 +479,33 @@ has = record {
   own = own;
   merge = merge;
   log_is = refl;
-  one_list = life-one MachineGives failed ClientSays 1 life start timeline is_life is_told (one ∷ []) [] there-0 refl begins-0 unworked-0 shared (list_0 ∷ list_1 ∷ []) log own (
-    are_since 0 (seat_of 0) seat_0 120 150 late_0 later_0 early_0 gave_0 refl says_0,
-    (are_since 1 (seat_of 1) seat_1 140 200 late_1 later_1 early_1 gave_1 refl says_1, tt),
-  ) (
-    in_order 0 (seat_of 0) seat_0 120 150 late_0 later_0 early_0 gave_0 refl says_0,
-    (in_order 1 (seat_of 1) seat_1 140 200 late_1 later_1 early_1 gave_1 refl says_1, tt),
-  )
+  one_list = cut-one MachineGives failed ClientSays 1 (whole_cut MachineGives failed ClientSays 1 life start timeline) is_life [] refl is_told (one ∷ []) [] there-0 refl begins-0 unworked-0 2 both legal_both
+      (map fused_span_of life.published) is_life.published (list_0 ∷ list_1 ∷ []) log own are-since are-in_order
       merge refl;
 }
 
 -- in any one list of these threads the clock shows 900 less than the true time
-pub daemon-shows : AllByRecursion Shows (daemon_list timeline)
+daemon-shows : AllByRecursion Shows (daemon_list timeline)
 daemon-shows = (λ shown by. (omega arith, omega arith), (λ shown by. (omega arith, omega arith), (λ shown by. (omega arith, omega arith), (λ shown by. (omega arith, omega arith), tt))))
 
-pub daemon-since : AreSince 990 (daemon_list timeline)
+daemon-since : AreSince 990 (daemon_list timeline)
 daemon-since = (omega arith, (omega arith, (omega arith, (omega arith, tt))))
 
-module _ (all : List LifeDone) (is : IsOneListWith max_time (daemon_list timeline) (list_0 ∷ list_1 ∷ []) log all) where
-  pub merged : IsMerge (daemon_list timeline) is.of_workers all
+module _ (first second log all : List LifeDone) (is : IsOneListWith max_time (daemon_list timeline) (first ∷ second ∷ []) log all) where
+  merged : IsMerge (daemon_list timeline) is.of_workers all
   merged = before-merge (daemon_list timeline) is.of_workers all is.merge
 
-  pub of-all : (P : LifeDone → Type 0) → AllByRecursion P (daemon_list timeline) → AllByRecursion P list_0 → AllByRecursion P list_1 → AllByRecursion P all
-  of-all P daemon first second = all-merge P (daemon_list timeline) is.of_workers all merged daemon (all-workers P (list_0 ∷ list_1 ∷ []) is.of_workers is.workers_are (first, (second, tt)))
+  of-all : (P : LifeDone → Type 0) → AllByRecursion P (daemon_list timeline) → AllByRecursion (AllByRecursion P) (first ∷ second ∷ []) → AllByRecursion P all
+  of-all P daemon each = all-merge P (daemon_list timeline) is.of_workers all merged daemon (all-workers P (first ∷ second ∷ []) is.of_workers is.workers_are each)
 
-  pub all-rises : ClockRises 90 all
-  all-rises =
-      (rises all max_time is.in_order
-      (of-all (λ (done : LifeDone). 990 ≤ done.at) daemon-since (are_since 0 (seat_of 0) seat_0 120 150 late_0 later_0 early_0 gave_0 refl says_0) (are_since 1 (seat_of 1) seat_1 140 200 late_1 later_1 early_1 gave_1 refl says_1))
-      (of-all Shows daemon-shows (shows 0 (seat_of 0) seat_0 120 150 late_0 later_0 early_0 gave_0 refl says_0) (shows 1 (seat_of 1) seat_1 140 200 late_1 later_1 early_1 gave_1 refl says_1))).0
+  pub all-rises : AllByRecursion (AreSince 990) (first ∷ second ∷ []) → AllByRecursion (AllByRecursion Shows) (first ∷ second ∷ []) → ClockRises 90 all
+  all-rises since shown = (rises all max_time is.in_order (of-all (λ (done : LifeDone). 990 ≤ done.at) daemon-since since) (of-all Shows daemon-shows shown)).0
 
-  pub all-few : length all < 2 ^ 64
-  all-few =
-      let (others, (none, none_is, second), first) = is.workers_are in
+  pub all-few : length first ≤ 3 → length second ≤ 3 → length all < 2 ^ 64
+  all-few few few_too =
+      let (others, (none, none_is, second_is), first_is) = is.workers_are in
       let four : length (daemon_list timeline) ≡ 4 = refl in
-      let three : length list_0 ≡ 3 = refl in
-      let three_too : length list_1 ≡ 3 = refl in
-      omega (arith, merge-size (daemon_list timeline) is.of_workers all merged, merge-size list_0 others is.of_workers first, merge-size list_1 none others second, ap length none_is)
+      omega (arith, few, few_too, merge-size (daemon_list timeline) is.of_workers all merged, merge-size first others is.of_workers first_is, merge-size second none others second_is, ap length none_is)
 
 pub is_worked : IsWorkedList (one ∷ []) [] MachineGives failed ClientSays 1 life start timeline turns shared
 is_worked = record {
@@ -521,6 +521,6 @@ is_worked = record {
   stamps = refl;
   has = has;
   log_in_order = log-in_order;
-  rises = all-rises (has.one_list log-in_order).0 (has.one_list log-in_order).1;
-  few = all-few (has.one_list log-in_order).0 (has.one_list log-in_order).1;
+  rises = all-rises list_0 list_1 log (has.one_list log-in_order).0 (has.one_list log-in_order).1 are-since are-shown;
+  few = all-few list_0 list_1 log (has.one_list log-in_order).0 (has.one_list log-in_order).1 (omega arith) (omega arith);
 }

@@ -3,3 +3,4 @@ pub mod Acts
 pub mod Threads
 pub mod Turns
 pub mod Lists
+pub mod Beginnings

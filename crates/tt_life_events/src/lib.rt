@@ -4,15 +4,18 @@
 //! the order of true time, whose stamps are the history of the sequencer.
 //!
 //! Such a list is a list of events of the model of true time (`tt_world`), which replies to each reading and each stamp
-//! as the life did. A life whose workers share one sequencer has such a list.
+//! as the life did. A life whose workers share one sequencer has such a list. So has each cut of such a life, which is what
+//! its threads had done by some moment.
 //!
-//! - `merging`: `merging_laws`. `listing`: `event_list_laws`. `living`: `life_list_laws`.
+//! - `merging`: `merging_laws`. `listing`: `event_list_laws`. `living`: `life_list_laws`. `cutting`: `cut_list_laws`.
 #![tactic(auto)]
 
+mod cutting;
 mod listing;
 mod living;
 mod merging;
 
+pub use cutting::cut_list_laws;
 pub use listing::event_list_laws;
 pub use living::life_list_laws;
 pub use merging::merging_laws;
