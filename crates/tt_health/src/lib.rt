@@ -28,8 +28,8 @@ mod widths;
 pub use answers::{Answer, answer_laws, answers_after, nth_newest};
 pub use breaks::{aged_last, meets_last};
 pub use pauses::{
-    BreakRecord, breaks_in_a_row, breaks_recorded, pause_before_start, record_after, record_of,
-    record_text,
+    BreakMoment, BreakRecord, breaks_in_a_row, breaks_recorded, moment_recorded,
+    pause_before_start, record_after, record_of, record_text,
 };
 pub use rates::{Rate, Sample, Track};
 pub use trips::{TRIP_BOUNDS, trip_place};

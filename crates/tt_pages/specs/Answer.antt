@@ -3,7 +3,7 @@ use Rattle.std.specs.Prelude.{codes, ℕ, Bool, true, false, if◌then◌else◌
 use Rattle.std.specs.Fmt.{decimal}
 use Rattle.tt_status.specs.Status.{status_text}
 use Rattle.tt_status.specs.declared.statuses.Status.{Status}
-use Rattle.tt_pages.specs.Health.{is_well, told_text}
+use Rattle.tt_pages.specs.Health.{is_well, last_break_in, told_text}
 use Rattle.tt_pages.specs.declared.answers.Code.{Code}
 use Rattle.tt_pages.specs.declared.answers.Code.TheVariants.{Found, FoundMetrics, FoundStart, NotReady}
 use Rattle.tt_pages.specs.declared.answers.Code.TheVariants as code
@@ -66,10 +66,10 @@ end_text code = line_text (more_of code) (codes "Connection: close\r\n")
 unfoldable pub reply_text : Code → List ℕ → Bool → List ℕ
 reply_text code text is_whole = words_text code ++ type_text code ++ length_text (length text) ++ end_text code ++ shown_of text is_whole
 
--- the status
-abbrev pub metrics_content : Option Status → Code × List ℕ
-metrics_content (Some status) = (FoundMetrics, status_text status)
-metrics_content None = (NotReady, codes "no status yet\n")
+-- the status, with the addresses of the sources
+abbrev pub metrics_content : Option Status → List (List ℕ) → Code × List ℕ
+metrics_content (Some status) addresses = (FoundMetrics, status_text status addresses)
+metrics_content None addresses = (NotReady, codes "no status yet\n")
 
 -- the evidence
 abbrev pub evidence_content : Option (List ℕ) → Code × List ℕ
@@ -81,37 +81,37 @@ abbrev pub health_code : TheHealth → Code
 health_code health = if is_well health then Found else NotReady
 
 -- whether the machine is well, and whether the life before was not
-abbrev pub health_content : TheHealth → Option ℕ → Code × List ℕ
-health_content health broke = (health_code health, told_text health broke)
+abbrev pub health_content : TheHealth → Option Status → ℕ → Code × List ℕ
+health_content health status time = (health_code health, told_text health (last_break_in status) time)
 
 -- the page for people
 abbrev pub start_content : List ℕ → Code × List ℕ
 start_content start = (FoundStart, start)
 
 -- the code and the text of a page, or that there is no such page
-abbrev pub content_of : Option Page → Option Status → TheHealth → Option ℕ → Option (List ℕ) → List ℕ → Code × List ℕ
-content_of (Some Start) status health broke evidence start = start_content start
-content_of (Some Metrics) status health broke evidence start = metrics_content status
-content_of (Some Evidence) status health broke evidence start = evidence_content evidence
-content_of (Some Health) status health broke evidence start = health_content health broke
-content_of None status health broke evidence start = (code.Unknown, codes "no such page\n")
+abbrev pub content_of : Option Page → Option Status → List (List ℕ) → TheHealth → ℕ → Option (List ℕ) → List ℕ → Code × List ℕ
+content_of (Some Start) status addresses health time evidence start = start_content start
+content_of (Some Metrics) status addresses health time evidence start = metrics_content status addresses
+content_of (Some Evidence) status addresses health time evidence start = evidence_content evidence
+content_of (Some Health) status addresses health time evidence start = health_content health status time
+content_of None status addresses health time evidence start = (code.Unknown, codes "no such page\n")
 
 -- the answer with this code and this text
 abbrev pub reply_of : Code × List ℕ → Bool → List ℕ
 reply_of content is_whole = reply_text content.0 content.1 is_whole
 
 -- the answer with a page, or its head alone
-abbrev pub page_text : Option Page → Option Status → TheHealth → Option ℕ → Option (List ℕ) → List ℕ → Bool → List ℕ
-page_text page status health broke evidence start is_whole = reply_of (content_of page status health broke evidence start) is_whole
+abbrev pub page_text : Option Page → Option Status → List (List ℕ) → TheHealth → ℕ → Option (List ℕ) → List ℕ → Bool → List ℕ
+page_text page status addresses health time evidence start is_whole = reply_of (content_of page status addresses health time evidence start) is_whole
 
 -- the answer to a request
-abbrev pub wanted_text : Wanted → Option Status → TheHealth → Option ℕ → Option (List ℕ) → List ℕ → List ℕ
-wanted_text (Whole page) status health broke evidence start = page_text page status health broke evidence start true
-wanted_text (Head page) status health broke evidence start = page_text page status health broke evidence start false
-wanted_text OtherMethod status health broke evidence start = reply_text code.OtherMethod (codes "only GET and HEAD\n") true
+abbrev pub wanted_text : Wanted → Option Status → List (List ℕ) → TheHealth → ℕ → Option (List ℕ) → List ℕ → List ℕ
+wanted_text (Whole page) status addresses health time evidence start = page_text page status addresses health time evidence start true
+wanted_text (Head page) status addresses health time evidence start = page_text page status addresses health time evidence start false
+wanted_text OtherMethod status addresses health time evidence start = reply_text code.OtherMethod (codes "only GET and HEAD\n") true
 
 -- the answer to what is asked
-abbrev pub answer_text : Asked → Option Status → TheHealth → Option ℕ → Option (List ℕ) → List ℕ → List ℕ
-answer_text (Wants wanted) status health broke evidence start = wanted_text wanted status health broke evidence start
-answer_text Invalid status health broke evidence start = reply_text code.Invalid (codes "not a request\n") true
-answer_text TooLong status health broke evidence start = reply_text code.TooLong (codes "the head is too long\n") true
+abbrev pub answer_text : Asked → Option Status → List (List ℕ) → TheHealth → ℕ → Option (List ℕ) → List ℕ → List ℕ
+answer_text (Wants wanted) status addresses health time evidence start = wanted_text wanted status addresses health time evidence start
+answer_text Invalid status addresses health time evidence start = reply_text code.Invalid (codes "not a request\n") true
+answer_text TooLong status addresses health time evidence start = reply_text code.TooLong (codes "the head is too long\n") true

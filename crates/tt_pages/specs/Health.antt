@@ -1,6 +1,9 @@
 -- Whether a machine is well.
 use Rattle.std.specs.Prelude.{codes, ℕ, ◌+◌, ◌*◌, ◌-◌, ◌/◌, ◌^◌, min, nat_eq, nat_le, nat_lt, Bool, true, false, not, ◌&&◌, if◌then◌else◌, List, [], ◌++◌, Option, Some, None}
 use Rattle.std.specs.Fmt.{decimal}
+use Rattle.tt_status.specs.Reason.{reason_word}
+use Rattle.tt_status.specs.declared.breaks.BreakReason.{BreakReason}
+use Rattle.tt_status.specs.declared.breaks.LastBreak.{LastBreak}
 use Rattle.tt_status.specs.declared.statuses.Status.{Status}
 use Rattle.tt_pages.specs.declared.healths.Limits.{Limits}
 use Rattle.tt_pages.specs.declared.healths.Health.{Health}
@@ -62,19 +65,33 @@ reasons_text h =
     ++ line_if h.unshared (codes "sharing_ended: the shared file is not written\n")
     ++ line_if h.still (codes "status_old: the last round was made ten rounds ago\n")
 
--- the life before ended so long ago by a broken assumption
-abbrev pub broke_line : ℕ → List ℕ
-broke_line ago = codes "last_life_broke " ++ decimal (ago / 1000000000) ++ codes " s ago: assumption_broken\n"
+-- what a status says of the last life that broke
+abbrev pub last_break_in : Option Status → Option LastBreak
+last_break_in None = None
+last_break_in (Some s) = s.last_break
 
--- the same, for ten minutes
-abbrev pub broke_text : Option ℕ → List ℕ
-broke_text None = []
-broke_text (Some ago) = if nat_le ago 600000000000 then broke_line ago else []
+-- why a life broke, where that is known, and the end of the line
+abbrev pub reason_text : Option BreakReason → List ℕ
+reason_text None = codes "\n"
+reason_text (Some reason) = codes ": " ++ reason_word reason ++ codes "\n"
+
+-- a life broke so long ago
+abbrev pub ago_text : ℕ → List ℕ
+ago_text ago = codes "last_life_broke " ++ decimal (ago / 1000000000) ++ codes " s ago"
+
+-- the line of it
+abbrev pub broke_line : ℕ → Option BreakReason → List ℕ
+broke_line ago reason = ago_text ago ++ reason_text reason
+
+-- the last life broke, for ten minutes after that
+abbrev pub broke_text : Option LastBreak → ℕ → List ℕ
+broke_text None time = []
+broke_text (Some last) time = if nat_le (time - last.time) 600000000000 then broke_line (time - last.time) last.reason else []
 
 -- that the machine is well, or why it is not
 abbrev pub judged_text : Health → List ℕ
 judged_text h = if is_well h then codes "ok\n" else reasons_text h
 
 -- whether it is well, and whether the life before was not
-unfoldable pub told_text : Health → Option ℕ → List ℕ
-told_text h broke = judged_text h ++ broke_text broke
+unfoldable pub told_text : Health → Option LastBreak → ℕ → List ℕ
+told_text h last time = judged_text h ++ broke_text last time

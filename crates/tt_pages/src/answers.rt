@@ -1,11 +1,11 @@
 //! The bytes of an answer.
 
-ghost use Rattle.std.specs.Prelude.{◌≡◌, ◌++◌, OnOk, IfOk, option_map, string_bytes};
+ghost use Rattle.std.specs.Prelude.{◌≡◌, ◌++◌, OnOk, IfOk, map, option_map, string_bytes};
 ghost use Rattle.tt_pages.specs.Answer.{answer_text, content_of, end_text, evidence_content, health_code, health_content, length_text, line_text, metrics_content, more_of, page_text, reply_text, shown_of, start_content, type_of, type_text, wanted_text, words_of, words_text};
 ghost use Rattle.tt_pages.specs.Health.{health_of};
 ghost use Rattle.tt_pages.specs.Start.{start_text};
 
-use crate::healths::{Health, Limits, health_of, push_health};
+use crate::healths::{Health, Limits, health_of, last_break_in, push_health};
 use crate::requests::{Asked, Page, Wanted};
 use crate::starts::push_start;
 use std::alloc::{AllocError, Global};
@@ -16,21 +16,23 @@ use tt_status::{Status, push_status};
 pub struct Report<'a> {
     /// Its last status, if there was one.
     pub status: &'a Option<Status>,
+    /// The addresses of its sources in their order, as the settings have them.
+    pub addresses: &'a [String],
     /// How old that is, in nanoseconds.
     pub age: u64,
     /// The evidence of its last publication, if there is any.
     pub evidence: &'a Option<String>,
     /// The part of a page of HTML that shows its last status, if that was drawn.
     pub drawing: &'a Option<String>,
-    /// How long ago the life before this one ended by a broken assumption, in nanoseconds, if it did.
-    pub broke: Option<u64>,
+    /// The time since 1970 by the real-time clock of the host, in nanoseconds.
+    pub time: u64,
     /// By what it is judged.
     pub limits: Limits,
 }
 
 /// How a request is answered.
 #[derive(Clone, Copy)]
-enum Code {
+pub(crate) enum Code {
     Found,
     FoundMetrics,
     FoundStart,
@@ -83,13 +85,13 @@ impl Code {
 
 /// The code and the text of an answer.
 #[derive(Drop)]
-struct Content {
-    code: Code,
-    text: String,
+pub(crate) struct Content {
+    pub(crate) code: Code,
+    pub(crate) text: String,
 }
 
 /// These words as the text of an answer.
-fn content_with(alloc: Global, code: Code, words: &str) -> Result<Content, AllocError>
+pub(crate) fn content_with(alloc: Global, code: Code, words: &str) -> Result<Content, AllocError>
     ensures code { IfOk result (λ content. content.code ≡ code) }
     ensures text { IfOk result (λ content. string_bytes content.text ≡ words.now) }
 {
@@ -97,15 +99,19 @@ fn content_with(alloc: Global, code: Code, words: &str) -> Result<Content, Alloc
     Ok(Content { code, text })
 }
 
-/// The status.
-fn metrics_content(alloc: Global, status: &Option<Status>) -> Result<Content, AllocError>
-    ensures { IfOk result (λ content. (content.code, string_bytes content.text) ≡ metrics_content status.now) }
+/// The status, with the addresses of the sources.
+fn metrics_content(
+    alloc: Global,
+    status: &Option<Status>,
+    addresses: &[String],
+) -> Result<Content, AllocError>
+    ensures { IfOk result (λ content. (content.code, string_bytes content.text) ≡ metrics_content status.now (map string_bytes addresses.now)) }
 {
     let Some(status) = status else {
         return content_with(alloc, Code::NotReady, "no status yet\n");
     };
     let mut text = String::new(alloc);
-    push_status(&mut text, status)?;
+    push_status(&mut text, status, addresses)?;
     Ok(Content {
         code: Code::FoundMetrics,
         text,
@@ -123,12 +129,18 @@ fn evidence_content(alloc: Global, evidence: &Option<String>) -> Result<Content,
 }
 
 /// Whether the machine is well.
-fn health_content(alloc: Global, health: &Health, broke: Option<u64>) -> Result<Content, AllocError>
-    ensures { IfOk result (λ content. (content.code, string_bytes content.text) ≡ health_content health.now broke) }
+fn health_content(alloc: Global, report: &Report<'_>) -> Result<Content, AllocError>
+    ensures { IfOk result (λ content. (content.code, string_bytes content.text) ≡ health_content (health_of report.now.status.now report.now.age report.now.limits) report.now.status.now report.now.time) }
 {
+    let health = health_of(report.status, report.age, &report.limits);
     let mut text = String::new(alloc);
-    push_health(&mut text, health, broke)?;
-    let code = code_of(health);
+    push_health(
+        &mut text,
+        &health,
+        last_break_in(report.status),
+        report.time,
+    )?;
+    let code = code_of(&health);
     Ok(Content { code, text })
 }
 
@@ -162,15 +174,12 @@ fn page_content(
     page: Option<Page>,
     report: &Report<'_>,
 ) -> Result<Content, AllocError>
-    ensures { IfOk result (λ content. (content.code, string_bytes content.text) ≡ content_of page report.now.status.now (health_of report.now.status.now report.now.age report.now.limits) report.now.broke (option_map string_bytes report.now.evidence.now) (start_text (health_of report.now.status.now report.now.age report.now.limits) report.now.age (option_map string_bytes report.now.drawing.now))) }
+    ensures { IfOk result (λ content. (content.code, string_bytes content.text) ≡ content_of page report.now.status.now (map string_bytes report.now.addresses.now) (health_of report.now.status.now report.now.age report.now.limits) report.now.time (option_map string_bytes report.now.evidence.now) (start_text (health_of report.now.status.now report.now.age report.now.limits) report.now.age (option_map string_bytes report.now.drawing.now))) }
 {
     match page {
-        Some(Page::Metrics) => metrics_content(alloc, report.status),
+        Some(Page::Metrics) => metrics_content(alloc, report.status, report.addresses),
         Some(Page::Evidence) => evidence_content(alloc, report.evidence),
-        Some(Page::Health) => {
-            let health = health_of(report.status, report.age, &report.limits);
-            health_content(alloc, &health, report.broke)
-        }
+        Some(Page::Health) => health_content(alloc, report),
         Some(Page::Start) => start_content(alloc, report),
         None => content_with(alloc, Code::Unknown, "no such page\n"),
     }
@@ -223,7 +232,7 @@ fn push_shown(text: &mut String, content: &str, is_whole: bool) -> Result<(), Al
 }
 
 /// Adds an answer with this text, or its head alone.
-fn push_reply(
+pub(crate) fn push_reply(
     text: &mut String,
     code: Code,
     content: &str,
@@ -247,7 +256,7 @@ fn push_page(
     is_whole: bool,
 ) -> Result<(), AllocError>
     ensures { OnOk result (string_bytes text.new ≡ string_bytes text.old
-        ++ page_text page report.now.status.now (health_of report.now.status.now report.now.age report.now.limits) report.now.broke (option_map string_bytes report.now.evidence.now) (start_text (health_of report.now.status.now report.now.age report.now.limits) report.now.age (option_map string_bytes report.now.drawing.now)) is_whole) }
+        ++ page_text page report.now.status.now (map string_bytes report.now.addresses.now) (health_of report.now.status.now report.now.age report.now.limits) report.now.time (option_map string_bytes report.now.evidence.now) (start_text (health_of report.now.status.now report.now.age report.now.limits) report.now.age (option_map string_bytes report.now.drawing.now)) is_whole) }
 {
     let content = page_content(alloc, page, report)?;
     push_reply(text, content.code, content.text.as_str(), is_whole)
@@ -261,7 +270,7 @@ fn push_wanted(
     report: &Report<'_>,
 ) -> Result<(), AllocError>
     ensures { OnOk result (string_bytes text.new ≡ string_bytes text.old
-        ++ wanted_text wanted report.now.status.now (health_of report.now.status.now report.now.age report.now.limits) report.now.broke (option_map string_bytes report.now.evidence.now) (start_text (health_of report.now.status.now report.now.age report.now.limits) report.now.age (option_map string_bytes report.now.drawing.now))) }
+        ++ wanted_text wanted report.now.status.now (map string_bytes report.now.addresses.now) (health_of report.now.status.now report.now.age report.now.limits) report.now.time (option_map string_bytes report.now.evidence.now) (start_text (health_of report.now.status.now report.now.age report.now.limits) report.now.age (option_map string_bytes report.now.drawing.now))) }
 {
     match wanted {
         Wanted::Whole(page) => push_page(text, alloc, page, report, true),
@@ -278,7 +287,7 @@ pub fn push_answer(
     report: &Report<'_>,
 ) -> Result<(), AllocError>
     ensures answer { OnOk result (string_bytes text.new ≡ string_bytes text.old
-        ++ answer_text asked report.now.status.now (health_of report.now.status.now report.now.age report.now.limits) report.now.broke (option_map string_bytes report.now.evidence.now) (start_text (health_of report.now.status.now report.now.age report.now.limits) report.now.age (option_map string_bytes report.now.drawing.now))) }
+        ++ answer_text asked report.now.status.now (map string_bytes report.now.addresses.now) (health_of report.now.status.now report.now.age report.now.limits) report.now.time (option_map string_bytes report.now.evidence.now) (start_text (health_of report.now.status.now report.now.age report.now.limits) report.now.age (option_map string_bytes report.now.drawing.now))) }
 {
     match asked {
         Asked::Wants(wanted) => push_wanted(text, alloc, wanted, report),

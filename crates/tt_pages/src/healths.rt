@@ -1,10 +1,10 @@
 //! Whether a machine is well.
 
 ghost use Rattle.std.specs.Prelude.{◌≡◌, ◌++◌, OnOk, string_bytes, nat_lt};
-ghost use Rattle.tt_pages.specs.Health.{broke_text, health_of, is_stale, is_well, is_wide, limits_of, line_if, reasons_text, judged_text, told_text};
+ghost use Rattle.tt_pages.specs.Health.{ago_text, broke_line, broke_text, health_of, is_stale, is_well, is_wide, last_break_in, limits_of, line_if, reason_text, reasons_text, judged_text, told_text};
 
 use std::alloc::AllocError;
-use tt_status::Status;
+use tt_status::{BreakReason, LastBreak, Status};
 
 /// A second, in nanoseconds.
 const SECOND: u64 = 1_000_000_000;
@@ -128,7 +128,7 @@ pub(crate) fn push_word(text: &mut String, word: &str) -> Result<(), AllocError>
 }
 
 /// Adds a line, if it is so.
-fn push_if(text: &mut String, is_so: bool, line: &str) -> Result<(), AllocError>
+pub(crate) fn push_if(text: &mut String, is_so: bool, line: &str) -> Result<(), AllocError>
     ensures { OnOk result (string_bytes text.new ≡ string_bytes text.old ++ line_if is_so line.now) }
 {
     if is_so { text.push_str(line) } else { Ok(()) }
@@ -162,14 +162,56 @@ pub(crate) fn push_reasons(text: &mut String, health: &Health) -> Result<(), All
     )
 }
 
-/// Adds a line that the life before this one ended so long ago by a broken assumption, for ten minutes.
-fn push_broke(text: &mut String, broke: Option<u64>) -> Result<(), AllocError>
-    ensures { OnOk result (string_bytes text.new ≡ string_bytes text.old ++ broke_text broke) }
+/// What a status says of the last life that broke.
+pub(crate) fn last_break_in(status: &Option<Status>) -> Option<LastBreak>
+    ensures { result ≡ last_break_in status.now }
 {
-    match broke {
-        Some(ago) if ago <= TOLD => {
-            let seconds = ago / SECOND;
-            write!(text, "last_life_broke {seconds} s ago: assumption_broken\n")
+    match status {
+        Some(status) => status.last_break,
+        None => None,
+    }
+}
+
+/// Adds why a life broke, if that is known.
+fn push_reason(text: &mut String, reason: Option<BreakReason>) -> Result<(), AllocError>
+    ensures { OnOk result (string_bytes text.new ≡ string_bytes text.old ++ reason_text reason) }
+{
+    match reason {
+        Some(reason) => {
+            let word = reason.word();
+            write!(text, ": {word}\n")
+        }
+        None => text.push_str("\n"),
+    }
+}
+
+/// Adds that a life broke so long ago.
+fn push_ago(text: &mut String, ago: u64) -> Result<(), AllocError>
+    ensures { OnOk result (string_bytes text.new ≡ string_bytes text.old ++ ago_text ago) }
+{
+    let seconds = ago / SECOND;
+    write!(text, "last_life_broke {seconds} s ago")
+}
+
+/// Adds the line that a life broke so long ago.
+fn push_broke_line(
+    text: &mut String,
+    ago: u64,
+    reason: Option<BreakReason>,
+) -> Result<(), AllocError>
+    ensures { OnOk result (string_bytes text.new ≡ string_bytes text.old ++ broke_line ago reason) }
+{
+    push_ago(text, ago)?;
+    push_reason(text, reason)
+}
+
+/// Adds a line that the last life broke, for ten minutes after that. It is `time` nanoseconds since 1970.
+fn push_broke(text: &mut String, last: Option<LastBreak>, time: u64) -> Result<(), AllocError>
+    ensures { OnOk result (string_bytes text.new ≡ string_bytes text.old ++ broke_text last time) }
+{
+    match last {
+        Some(last) if time.saturating_sub(last.time) <= TOLD => {
+            push_broke_line(text, time.saturating_sub(last.time), last.reason)
         }
         _ => Ok(()),
     }
@@ -190,10 +232,11 @@ fn push_judged(text: &mut String, health: &Health) -> Result<(), AllocError>
 pub(crate) fn push_health(
     text: &mut String,
     health: &Health,
-    broke: Option<u64>,
+    last: Option<LastBreak>,
+    time: u64,
 ) -> Result<(), AllocError>
-    ensures { OnOk result (string_bytes text.new ≡ string_bytes text.old ++ told_text health.now broke) }
+    ensures { OnOk result (string_bytes text.new ≡ string_bytes text.old ++ told_text health.now last time) }
 {
     push_judged(text, health)?;
-    push_broke(text, broke)
+    push_broke(text, last, time)
 }

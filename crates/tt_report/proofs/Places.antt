@@ -1,11 +1,12 @@
 -- What is kept of each kind, when one of them changes.
-use Rattle.std.proofs.Common.{◌≡◌, ℕ, ◌<◌, ◌≢◌, Bool, true, false, cond, eqb, List, [], ◌∷◌, get_or, length, replicate, slice_get, Some, refl, ap, subst, ◌∙◌, sym}
+use Rattle.std.proofs.Common.{◌≡◌, Option, ℕ, ◌<◌, ◌≢◌, Bool, true, false, cond, eqb, List, [], ◌∷◌, get_or, length, replicate, slice_get, Some, refl, ap, subst, ◌∙◌, sym}
 use Rattle.std.specs.Prelude.{slice_set}
 use Rattle.std.proofs.lemmas.List.{get_or-set_same, get_or-set_other, length-set, get_or-replicate, length-replicate}
 use Rattle.std.proofs.lemmas.Option.{slice_get-get_or, get_or_from_slice_get, slice_get_within}
 use Rattle.std.proofs.lemmas.Bool.{eqb-true, eqb-false}
 use Rattle.tt_report.specs.declared.limits.Kind.{Kind}
-use Rattle.tt_report.specs.Left.{Happened, KindStandsFor, of_kind}
+use Rattle.tt_report.specs.Left.{Happened, KindStandsFor, of_kind, after_turn}
+use Rattle.tt_report.specs.Left.Happened.{turned}
 
 -- a place that has a value after a change is there before it
 there : {X : Type 0} (xs : List X) (i k : ℕ) (v y : X) → slice_get (slice_set xs i v) k ≡ Some y → k < length xs
@@ -28,8 +29,8 @@ repeated n k x y e =
     ∙ get_or_from_slice_get (replicate n x) k y y e
 
 -- at the beginning nothing has happened to any kind
-pub new-kinds : (x : Kind) → KindStandsFor [] x → (k : ℕ) → (kind : Kind) → slice_get (replicate 160 x) k ≡ Some kind → KindStandsFor [] kind
-new-kinds x stands k kind e = subst (KindStandsFor []) (repeated 160 k x kind e) stands
+pub new-kinds : (x : Kind) → KindStandsFor [] x → (k : ℕ) → (kind : Kind) → slice_get (replicate 208 x) k ≡ Some kind → KindStandsFor [] kind
+new-kinds x stands k kind e = subst (KindStandsFor []) (repeated 208 k x kind e) stands
 
 module _ (past : List (ℕ × Happened)) (i : ℕ) (what : Happened) (kinds : List Kind) (v d : Kind)
     (all : (n : ℕ) → (x : Kind) → slice_get kinds n ≡ Some x → KindStandsFor (of_kind n past) x)
@@ -52,3 +53,11 @@ kept-kinds past i j what kinds v d at all one k kind e =
     let one' : KindStandsFor (of_kind i past) (get_or kinds i d) → KindStandsFor (what ∷ of_kind i past) v =
     λ old. one (subst (λ n. KindStandsFor (of_kind i past) (get_or kinds n d)) (sym at) old) in
     changed past i what kinds v d all one' k kind (eqb k i) refl (subst (λ n. slice_get (slice_set kinds n v) k ≡ Some kind) at e)
+
+-- the same after a turn of a kind
+pub turned-kinds : (past : List (ℕ × Happened)) (t : Option ℕ) (i : ℕ) (kinds : List Kind) (v d : Kind) → t ≡ Some i
+    → ((n : ℕ) → (x : Kind) → slice_get kinds n ≡ Some x → KindStandsFor (of_kind n past) x)
+    → (KindStandsFor (of_kind i past) (get_or kinds i d) → KindStandsFor (turned ∷ of_kind i past) v)
+    → (k : ℕ) → (kind : Kind) → slice_get (slice_set kinds i v) k ≡ Some kind → KindStandsFor (of_kind k (after_turn t past)) kind
+turned-kinds past t i kinds v d is all one k kind e =
+    subst (λ o. KindStandsFor (of_kind k (after_turn o past)) kind) (sym is) (kept-kinds past i i turned kinds v d refl all one k kind e)

@@ -3,3 +3,5 @@ pub mod Left
 pub mod Watch
 pub mod Fault
 pub mod Pages
+pub mod Try
+pub mod Shown

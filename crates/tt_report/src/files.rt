@@ -1,8 +1,12 @@
 //! The files that are replaced as a whole: the status file and those of the evidence.
 
+ghost use Rattle.std.specs.Prelude.{◌≡◌, ◌++◌, OnOk, map, string_bytes};
+ghost use Rattle.tt_report.specs.Shown.{shown_text};
+
 use std::alloc::{AllocError, Global};
 use std::fs::{File, Files};
 use std::io;
+use std::sync::Arc;
 use tt_status::{MasterStatus, Status, push_master_status, push_status};
 
 /// The permissions of a file: all may read it.
@@ -29,15 +33,17 @@ pub(crate) enum Shown {
     /// That of a machine.
     Machine(Status),
     /// That of a master.
-    Master(MasterStatus),
+    Master(Arc<MasterStatus, Global>),
 }
 
 impl Shown {
-    /// Adds its text to a text.
-    fn push(&self, text: &mut String) -> Result<(), AllocError> {
+    /// Adds its text to a text: that of a machine whose sources have these addresses, or that of a master.
+    fn push(&self, text: &mut String, addresses: &[String]) -> Result<(), AllocError>
+        ensures written { OnOk result (string_bytes text.new ≡ string_bytes text.old ++ shown_text self.now (map string_bytes addresses.now)) }
+    {
         match self {
-            Shown::Machine(status) => push_status(text, status),
-            Shown::Master(status) => push_master_status(text, status),
+            Shown::Machine(status) => push_status(text, status, addresses),
+            Shown::Master(status) => push_master_status(text, &**status),
         }
     }
 }
@@ -74,15 +80,16 @@ impl WholeFile {
         disk.replace(self.path.as_str(), self.draft.as_str(), text.as_bytes())
     }
 
-    /// Replaces the file by the text of a status.
+    /// Replaces the file by the text of a status, if these are the addresses of the sources.
     pub(crate) fn write_status<D: Disk>(
         &self,
         disk: &D,
         alloc: Global,
         status: &Shown,
+        addresses: &[String],
     ) -> io::Result<()> {
         let mut text = String::new(alloc);
-        status.push(&mut text)?;
+        status.push(&mut text, addresses)?;
         self.write(disk, text.as_str())
     }
 }

@@ -1,14 +1,15 @@
 //! The thread that answers requests over HTTP. It serves several connections by turns.
 
 use crate::clocks::{clock_of, time_of};
-use crate::records::{PageLanes, Records};
+use crate::records::{PageLanes, PageShown, Records};
+use crate::sources::Addresses;
 use crate::visitors::{Turn, Visitor, left_of};
 use mio::unix::SourceFd;
 use mio::{Events, Interest, Poll, Token};
 use std::alloc::{AllocError, Global};
 use std::net::{Net, TcpListener};
 use std::os::fd::AsRawFd;
-use std::sync::Wait;
+use std::sync::{Arc, Wait};
 use std::time::{Clock as SystemClock, Duration};
 use std::{io, thread};
 use tt_pages::{Asked, Limits, Page, Report, Wanted, push_answer};
@@ -46,16 +47,28 @@ pub struct Pages {
 
 /// What the clocks show, in nanoseconds.
 #[derive(Clone, Copy)]
-struct Now {
+pub(crate) struct Now {
     /// The monotonic one.
-    clock: u64,
+    pub(crate) clock: u64,
     /// The time since 1970.
-    time: u64,
+    pub(crate) time: u64,
 }
 
-/// What was handed over last.
+/// What pages show.
+pub(crate) trait Shows {
+    /// Takes what was handed over meanwhile.
+    fn take<R: Wait>(&mut self, rt: &R, lanes: &PageLanes);
+
+    /// The answer to this, when the clocks show `now`. None if it is out of memory.
+    fn answer(&mut self, alloc: Global, asked: Asked, now: Now) -> Option<String>;
+}
+
+/// What a machine handed over last.
 #[derive(Drop)]
-struct Newest {
+pub(crate) struct Newest {
+    limits: Limits,
+    /// The addresses of its sources.
+    addresses: Arc<Addresses, Global>,
     status: Option<Status>,
     /// When the status was handed over, or the thread began: a reading of the monotonic clock, in nanoseconds.
     at: u64,
@@ -66,34 +79,21 @@ struct Newest {
     past: Past,
     /// The part of a page that shows the status, if it was drawn since that was handed over.
     drawing: Option<String>,
-    /// When the life before broke, in nanoseconds since 1970, 0 if it did not. None before the first status.
-    broke_at: Option<u64>,
 }
 
 impl Newest {
-    /// Nothing was handed over so far, when the clock shows `now`.
-    fn nothing(now: u64) -> Newest {
+    /// Nothing was handed over so far, when the clock shows `now`, by a machine that is judged by these limits, and whose
+    /// sources have these addresses.
+    pub(crate) fn nothing(now: u64, limits: Limits, addresses: Arc<Addresses, Global>) -> Newest {
         Newest {
+            limits,
+            addresses,
             status: None,
             at: now,
             evidence: None,
             widths: Widths::new(now),
             past: Past::new(now),
             drawing: None,
-            broke_at: None,
-        }
-    }
-
-    /// Takes what was handed over meanwhile.
-    fn take<R: Wait>(&mut self, rt: &R, lanes: &PageLanes) {
-        if let Some(shown) = lanes.status.take_waiting(rt) {
-            self.widths.see(shown.status.width.unwrap_or(0), shown.at);
-            self.status = Some(shown.status);
-            self.at = shown.at;
-            self.drawing = None;
-        }
-        if let Some(text) = lanes.evidence.take_waiting(rt) {
-            self.evidence = Some(text);
         }
     }
 
@@ -101,7 +101,7 @@ impl Newest {
     fn view(&self, alloc: Global) -> Option<View> {
         let mut told = String::new(alloc);
         match &self.status {
-            Some(status) => push_status(&mut told, status).ok()?,
+            Some(status) => push_status(&mut told, status, self.addresses.all()).ok()?,
             None => return None,
         }
         let evidence = match &self.evidence {
@@ -111,34 +111,25 @@ impl Newest {
         read_view(alloc, told.as_bytes(), evidence).ok()
     }
 
-    /// Looks at the first status, once, for how the life before ended.
-    fn look_back(&mut self, alloc: Global) {
-        if self.broke_at.is_none() {
-            if let Some(view) = self.view(alloc) {
-                self.broke_at = Some(view.broke.at);
-            }
-        }
-    }
-
     /// Draws the status where that is asked for and not done yet, so once for each status at most.
-    fn draw(&mut self, alloc: Global, asked: Asked, limits: Limits, now: Now) {
+    fn draw(&mut self, alloc: Global, asked: Asked, now: Now) {
         if self.drawing.is_some() || !wants_drawing(asked) {
             return;
         }
         if let Some(view) = self.view(alloc) {
             self.past.see(&view, now.clock);
-            self.drawing = self.drawing_of(alloc, &view, limits, now);
+            self.drawing = self.drawing_of(alloc, &view, now);
         }
     }
 
     /// The part of a page that shows this. None if it is out of memory.
-    fn drawing_of(&self, alloc: Global, view: &View, limits: Limits, now: Now) -> Option<String> {
+    fn drawing_of(&self, alloc: Global, view: &View, now: Now) -> Option<String> {
         let form = Form {
             columns: 80,
             ascii: true,
             colour: false,
-            silent_after: limits.fresh,
-            max_width: limits.max_width,
+            silent_after: self.limits.fresh,
+            max_width: self.limits.max_width,
             age: None,
             time: now.time,
         };
@@ -147,24 +138,34 @@ impl Newest {
         push_drawing(alloc, &mut text, view, &form, widths.as_slice(), &self.past).ok()?;
         Some(text)
     }
+}
 
-    /// How long ago the life before broke, in nanoseconds, if it did.
-    fn broke(&self, time: u64) -> Option<u64> {
-        match self.broke_at {
-            Some(at) if at > 0 => Some(time.saturating_sub(at)),
-            _ => None,
+impl Shows for Newest {
+    fn take<R: Wait>(&mut self, rt: &R, lanes: &PageLanes) {
+        if let Some(taken) = lanes.status.take_waiting(rt) {
+            let at = taken.at;
+            if let PageShown::Machine(status) = taken.shown {
+                self.widths.see(status.width.unwrap_or(0), at);
+                self.status = Some(status);
+                self.at = at;
+                self.drawing = None;
+            }
+        }
+        if let Some(text) = lanes.evidence.take_waiting(rt) {
+            self.evidence = Some(text);
         }
     }
 
-    /// The answer to this, when the clock shows `now`. None if it is out of memory.
-    fn answer(&self, alloc: Global, asked: Asked, limits: Limits, now: Now) -> Option<String> {
+    fn answer(&mut self, alloc: Global, asked: Asked, now: Now) -> Option<String> {
+        self.draw(alloc, asked, now);
         let report = Report {
             status: &self.status,
+            addresses: self.addresses.all(),
             age: now.clock.saturating_sub(self.at),
             evidence: &self.evidence,
             drawing: &self.drawing,
-            broke: self.broke(now.time),
-            limits,
+            time: now.time,
+            limits: self.limits,
         };
         let mut text = String::new(alloc);
         match push_answer(&mut text, alloc, asked, &report) {
@@ -182,11 +183,12 @@ fn wants_drawing(asked: Asked) -> bool {
     )
 }
 
-/// The pages with the connections that are served, and what their thread waits with.
+/// The address of pages with the connections that are served, and what their thread waits with.
 #[derive(Drop)]
 pub(crate) struct PageHost {
     alloc: Global,
-    pages: Pages,
+    listener: TcpListener,
+    is_open: bool,
     poll: Poll,
     events: Events,
     visitors: Vec<Option<Visitor>>,
@@ -195,18 +197,25 @@ pub(crate) struct PageHost {
 }
 
 impl PageHost {
-    /// The pages of which nobody has asked for any. Refuses with the error of the system, also if it is out of memory.
-    pub(crate) fn new<R: Net>(rt: &R, alloc: Global, pages: Pages) -> io::Result<PageHost> {
+    /// The pages at this address of which nobody has asked for any; `is_open` says whether they are given to other hosts, too.
+    /// Refuses with the error of the system, also if it is out of memory.
+    pub(crate) fn new<R: Net>(
+        rt: &R,
+        alloc: Global,
+        listener: TcpListener,
+        is_open: bool,
+    ) -> io::Result<PageHost> {
         let poll = Poll::new(rt)?;
-        pages.listener.set_nonblocking(true)?;
-        let descriptor = pages.listener.as_raw_fd();
+        listener.set_nonblocking(true)?;
+        let descriptor = listener.as_raw_fd();
         poll.registry()
             .register(&mut SourceFd(&descriptor), ANY, Interest::READABLE)?;
         let events = Events::with_capacity(alloc, EVENTS)?;
         let visitors = no_visitors(alloc)?;
         Ok(PageHost {
             alloc,
-            pages,
+            listener,
+            is_open,
             poll,
             events,
             visitors,
@@ -234,9 +243,9 @@ impl PageHost {
     fn accept_some(&mut self, now: u64) {
         self.pause = Some(0);
         for _ in 0..ACCEPTS {
-            match self.pages.listener.accept() {
+            match self.listener.accept() {
                 Ok((stream, peer)) => {
-                    if self.pages.is_open || peer.ip().is_loopback() {
+                    if self.is_open || peer.ip().is_loopback() {
                         self.put(Visitor::new(self.alloc, stream, now));
                     }
                 }
@@ -296,12 +305,11 @@ impl PageHost {
     }
 
     /// A turn of each connection, and the end of those that are over or have had their time when the clock shows `now`.
-    fn serve_all(&mut self, newest: &mut Newest, now: Now) {
+    fn serve_all<S: Shows>(&mut self, newest: &mut S, now: Now) {
         for slot in self.visitors.iter_mut() {
             let goes_on = match slot {
                 Some(visitor) => {
-                    left_of(visitor.began, now.clock) > 0
-                        && serve(self.alloc, visitor, newest, self.pages.limits, now)
+                    left_of(visitor.began, now.clock) > 0 && serve(self.alloc, visitor, newest, now)
                 }
                 None => true,
             };
@@ -313,21 +321,12 @@ impl PageHost {
 }
 
 /// A turn of this connection. Answers whether it goes on.
-fn serve(
-    alloc: Global,
-    visitor: &mut Visitor,
-    newest: &mut Newest,
-    limits: Limits,
-    now: Now,
-) -> bool {
+fn serve<S: Shows>(alloc: Global, visitor: &mut Visitor, newest: &mut S, now: Now) -> bool {
     let turn = match visitor.turn() {
-        Turn::Asks(asked) => {
-            newest.draw(alloc, asked, limits, now);
-            match newest.answer(alloc, asked, limits, now) {
-                Some(answer) => visitor.give(answer),
-                None => Turn::Over,
-            }
-        }
+        Turn::Asks(asked) => match newest.answer(alloc, asked, now) {
+            Some(answer) => visitor.give(answer),
+            None => Turn::Over,
+        },
         turn => turn,
     };
     matches!(turn, Turn::Waits)
@@ -343,13 +342,17 @@ fn no_visitors(alloc: Global) -> Result<Vec<Option<Visitor>>, AllocError> {
 }
 
 /// Answers requests, one of each connection.
-pub(crate) fn give_pages<R: Wait + SystemClock>(rt: &R, records: &Records, host: PageHost) {
+pub(crate) fn give_pages<R: Wait + SystemClock, S: Shows + Drop>(
+    rt: &R,
+    records: &Records,
+    host: PageHost,
+    newest: S,
+) {
     let mut host = host;
-    let mut newest = Newest::nothing(clock_of(rt));
+    let mut newest = newest;
     for _ in rt.forever() {
         host.wait(rt);
         newest.take(rt, &records.pages);
-        newest.look_back(host.alloc);
         let now = Now {
             clock: clock_of(rt),
             time: time_of(rt),

@@ -3,23 +3,16 @@
 use crate::clocks::{clock_of, time_of};
 use crate::files::{Break, Shown};
 use crate::lanes::Lane;
-use crate::limits::LogLimits;
+use crate::limits::{Asked, KINDS, LogLimits};
 use std::alloc::{AllocError, Global};
 use std::sync::atomic::{AtomicU64, Ordering};
-use std::sync::{Mutex, Wait};
+use std::sync::{Arc, Mutex, Wait};
 use std::time::Clock as SystemClock;
-use tt_status::{LogEvent, Status};
+use tt_master::Silence;
+use tt_status::{LogEvent, LogLine, MasterStatus, Status};
 
 /// How many lines may wait to be written.
 pub const CAPACITY: usize = 256;
-
-/// A line of the log, with its time in nanoseconds since 1970, and how many of its kind were left out before it.
-#[derive(Clone, Copy)]
-pub(crate) struct Line {
-    pub(crate) time: u64,
-    pub(crate) event: LogEvent,
-    pub(crate) left_out: u64,
-}
 
 /// The evidence that waits to be written.
 #[derive(Drop)]
@@ -40,10 +33,19 @@ impl EvidenceLanes {
     }
 }
 
+/// The status that pages show.
+#[derive(Drop)]
+pub(crate) enum PageShown {
+    /// That of a machine.
+    Machine(Status),
+    /// That of a master, and why it answered no poll then, if it did not.
+    Master(Arc<MasterStatus, Global>, Option<Silence>),
+}
+
 /// A status, and the reading of the monotonic clock at which it was handed over, in nanoseconds.
-#[derive(Clone, Copy)]
+#[derive(Drop)]
 pub(crate) struct PageStatus {
-    pub(crate) status: Status,
+    pub(crate) shown: PageShown,
     pub(crate) at: u64,
 }
 
@@ -69,7 +71,7 @@ impl PageLanes {
 /// The records that wait to be written, and what is kept of those that were handed over.
 #[derive(Drop)]
 pub(crate) struct Records {
-    pub(crate) lines: Lane<Line>,
+    pub(crate) lines: Lane<LogLine>,
     /// One place, for the newest status.
     pub(crate) statuses: Lane<Shown>,
     pub(crate) evidence: Box<EvidenceLanes, Global>,
@@ -105,24 +107,50 @@ impl Records {
         })
     }
 
-    /// Hands over the line of an event, unless one of its kind was handed over less than ten seconds before, or no place
-    /// is free. It writes nothing itself.
+    /// Hands over the line of an event, unless the pause behind the one before of its kind is not over, or no place is free.
+    /// It writes nothing itself.
     pub(crate) fn log<R: Wait + SystemClock>(&self, rt: &R, event: LogEvent) {
         let now = clock_of(rt);
-        let admitted = self.limits.lock(rt).admit(event, now);
-        let Some(left_out) = admitted else {
-            return;
-        };
-        let line = Line {
-            time: time_of(rt),
-            event,
-            left_out,
-        };
+        let time = time_of(rt);
+        let admitted = self.admit(rt, Asked { time, event }, now);
+        if let Some(left_out) = admitted {
+            self.hand_over(
+                rt,
+                LogLine {
+                    time,
+                    event,
+                    left_out,
+                },
+            );
+        }
+    }
+
+    /// Whether a line is handed over at this clock reading, and how many of its kind were left out.
+    fn admit<R: Wait>(&self, rt: &R, line: Asked, now: u64) -> Option<u64> {
+        let mut limits = self.limits.lock(rt);
+        limits.turn(line.event);
+        limits.admit(line, now)
+    }
+
+    /// Hands over a line that its limit lets pass. If no place is free, it is lost.
+    fn hand_over<R: Wait>(&self, rt: &R, line: LogLine) {
         self.unwritten.fetch_add(1, Ordering::SeqCst);
         let fits = self.lines.push(rt, line);
-        self.limits.lock(rt).settle(event, left_out, fits);
+        self.limits.lock(rt).settle(line.event, line.left_out, fits);
         if !fits {
             self.leave_out();
+        }
+    }
+
+    /// Hands over of each kind the newest line that was left out, if the pause is over and no line came since. Each has the
+    /// time at which it was logged.
+    pub(crate) fn release<R: Wait + SystemClock>(&self, rt: &R) {
+        let now = clock_of(rt);
+        for kind in 0..KINDS {
+            let released = self.limits.lock(rt).release(kind, now);
+            if let Some(line) = released {
+                self.hand_over(rt, line);
+            }
         }
     }
 
@@ -144,9 +172,9 @@ impl Records {
     }
 
     /// Hands over a status for pages. One that still waits gives its place to it.
-    pub(crate) fn show_page<R: Wait + SystemClock>(&self, rt: &R, status: Status) {
+    pub(crate) fn show_page<R: Wait + SystemClock>(&self, rt: &R, shown: PageShown) {
         let at = clock_of(rt);
-        let _ = self.pages.status.push_newest(rt, PageStatus { status, at });
+        let _ = self.pages.status.push_newest(rt, PageStatus { shown, at });
     }
 
     /// Hands over the newest evidence for pages. A text that still waits gives its place to it.

@@ -3,8 +3,11 @@
 use crate::clocks::clock_of;
 use crate::faults::ReporterFault;
 use crate::files::{Break, Disk, EvidenceFiles, Shown, WholeFile};
-use crate::pages::{PageHost, Pages, give_pages};
-use crate::records::Records;
+use crate::journals::Journal;
+use crate::master_pages::{MasterPages, NewestOfMaster};
+use crate::pages::{Newest, PageHost, Pages, Shows, give_pages};
+use crate::records::{PageShown, Records};
+use crate::sources::Addresses;
 use crate::writers::{write_evidence, write_lines, write_statuses};
 use std::alloc::{AllocError, Global};
 use std::io::Eprint;
@@ -13,7 +16,8 @@ use std::sync::atomic::Ordering;
 use std::sync::{Arc, Wait};
 use std::thread::{self, Threads};
 use std::time::{Clock as SystemClock, Duration};
-use tt_status::{LogEvent, LogFormat, MasterStatus, Status};
+use tt_master::Silence;
+use tt_status::{LogEvent, LogFormat, LogStyle, MasterStatus, Status};
 
 /// For how long [`Reporter::end`] waits at most, in nanoseconds: 190 ms, so that with its last sleep it is at most
 /// 200 ms.
@@ -30,13 +34,15 @@ const PAUSE: u64 = 2;
 #[derive(Drop)]
 pub struct Reporter {
     records: Arc<Records, Global>,
+    addresses: Arc<Addresses, Global>,
     has_file: bool,
     has_evidence: bool,
     has_pages: bool,
 }
 
 impl Reporter {
-    /// A reporter that writes lines in this form to standard error and, if there is a path for them, the status and the
+    /// A reporter that writes lines in this form to standard error, with the priorities of a journal if one reads it and with
+    /// these addresses beside numbers, and, if there is a path for them, the status, that of a machine with these addresses, and the
     /// evidence to the files at these paths. Its threads run until the process ends, and are never joined.
     ///
     /// Refuses with 1816 `NoThread` if a thread can't be started, and with 1 `Memory`.
@@ -46,20 +52,23 @@ impl Reporter {
         format: LogFormat,
         status: Option<&str>,
         evidence: Option<&str>,
+        addresses: Addresses,
     ) -> Result<Reporter, ReporterFault>
     where
-        R: Threads + Wait + SystemClock + Eprint + Disk + Copy + Send + 'static,
+        R: Threads + Wait + SystemClock + Eprint + Disk + Journal + Copy + Send + 'static,
     {
         let rt = *rt;
         let file = WholeFile::at_some(alloc, status)?;
         let files = EvidenceFiles::at_some(alloc, evidence)?;
         let reporter = Reporter {
             records: shared_records(alloc)?,
+            addresses: shared_addresses(alloc, addresses)?,
             has_file: file.is_some(),
             has_evidence: files.is_some(),
             has_pages: false,
         };
-        reporter.start_lines(rt, alloc, format)?;
+        let is_journal = rt.reads_errors();
+        reporter.start_lines(rt, alloc, LogStyle { format, is_journal })?;
         if let Some(file) = file {
             reporter.start_statuses(rt, alloc, file)?;
         }
@@ -70,12 +79,18 @@ impl Reporter {
     }
 
     /// Starts the thread that writes the log.
-    fn start_lines<R>(&self, rt: R, alloc: Global, format: LogFormat) -> Result<(), ReporterFault>
+    fn start_lines<R>(&self, rt: R, alloc: Global, style: LogStyle) -> Result<(), ReporterFault>
     where
         R: Threads + Wait + SystemClock + Eprint + Copy + Send + 'static,
     {
         let theirs = Arc::try_clone(&self.records)?;
-        if thread::spawn(&rt, move || write_lines(&rt, alloc, &theirs, format)).is_err() {
+        let addresses = Arc::try_clone(&self.addresses)?;
+        if thread::spawn(
+            &rt,
+            move || write_lines(&rt, alloc, &theirs, style, &addresses),
+        )
+        .is_err()
+        {
             return Err(ReporterFault::NoThread);
         }
         Ok(())
@@ -87,7 +102,13 @@ impl Reporter {
         R: Threads + Wait + SystemClock + Disk + Copy + Send + 'static,
     {
         let theirs = Arc::try_clone(&self.records)?;
-        if thread::spawn(&rt, move || write_statuses(&rt, alloc, &theirs, &file)).is_err() {
+        let addresses = Arc::try_clone(&self.addresses)?;
+        if thread::spawn(
+            &rt,
+            move || write_statuses(&rt, alloc, &theirs, &file, &addresses),
+        )
+        .is_err()
+        {
             return Err(ReporterFault::NoThread);
         }
         Ok(())
@@ -118,12 +139,40 @@ impl Reporter {
     where
         R: Threads + Wait + SystemClock + Net + Copy + Send + 'static,
     {
-        let rt = *rt;
-        let theirs = Arc::try_clone(&self.records)?;
-        let Ok(host) = PageHost::new(&rt, alloc, pages) else {
+        let limits = pages.limits;
+        let Ok(host) = PageHost::new(rt, alloc, pages.listener, pages.is_open) else {
             return Err(ReporterFault::NoThread);
         };
-        if thread::spawn(&rt, move || give_pages(&rt, &theirs, host)).is_err() {
+        let addresses = Arc::try_clone(&self.addresses)?;
+        let newest = Newest::nothing(clock_of(rt), limits, addresses);
+        self.start_pages(*rt, host, newest)
+    }
+
+    /// As [`Reporter::give_pages`], of a master.
+    pub fn give_master_pages<R>(
+        &mut self,
+        rt: &R,
+        alloc: Global,
+        pages: MasterPages,
+    ) -> Result<(), ReporterFault>
+    where
+        R: Threads + Wait + SystemClock + Net + Copy + Send + 'static,
+    {
+        let Ok(host) = PageHost::new(rt, alloc, pages.listener, pages.is_open) else {
+            return Err(ReporterFault::NoThread);
+        };
+        let newest = NewestOfMaster::nothing(clock_of(rt));
+        self.start_pages(*rt, host, newest)
+    }
+
+    /// Starts the thread that gives pages.
+    fn start_pages<R, S>(&mut self, rt: R, host: PageHost, newest: S) -> Result<(), ReporterFault>
+    where
+        R: Threads + Wait + SystemClock + Net + Copy + Send + 'static,
+        S: Shows + Drop + Send + 'static,
+    {
+        let theirs = Arc::try_clone(&self.records)?;
+        if thread::spawn(&rt, move || give_pages(&rt, &theirs, host, newest)).is_err() {
             return Err(ReporterFault::NoThread);
         }
         self.has_pages = true;
@@ -134,14 +183,16 @@ impl Reporter {
     pub fn try_clone(&self) -> Result<Reporter, AllocError> {
         Ok(Reporter {
             records: Arc::try_clone(&self.records)?,
+            addresses: Arc::try_clone(&self.addresses)?,
             has_file: self.has_file,
             has_evidence: self.has_evidence,
             has_pages: self.has_pages,
         })
     }
 
-    /// Hands over the line of an event, with the time of the real-time clock, unless a line of its kind was handed over
-    /// less than ten seconds before, or no place is free. It writes nothing itself and never waits for standard error.
+    /// Hands over the line of an event, with the time of the real-time clock, unless the pause
+    /// behind the line before of its kind is not over, or no place is free. The newest one that was left out is handed over
+    /// within a second after that pause. It writes nothing itself and never waits for standard error.
     pub fn log<R: Wait + SystemClock>(&self, rt: &R, event: LogEvent) {
         self.records.log(rt, event)
     }
@@ -150,17 +201,33 @@ impl Reporter {
     /// its place to it. It writes nothing itself and never waits for the file or for a client.
     pub fn show<R: Wait + SystemClock>(&self, rt: &R, status: Status) {
         if self.has_pages {
-            self.records.show_page(rt, status)
+            self.records.show_page(rt, PageShown::Machine(status))
         }
         if self.has_file {
             self.records.show(rt, Shown::Machine(status))
         }
     }
 
-    /// Hands over the newest status of a master, if there is a status file, as [`Reporter::show`] does that of a machine.
-    pub fn show_master<R: Wait>(&self, rt: &R, status: MasterStatus) {
+    /// Hands over the newest status of a master, and why it answers no poll, if it does not, as [`Reporter::show`] does the
+    /// status of a machine. If it is out of memory, it hands over nothing.
+    pub fn show_master<R: Wait + SystemClock>(
+        &self,
+        rt: &R,
+        alloc: Global,
+        status: MasterStatus,
+        silence: Option<Silence>,
+    ) {
+        let Ok(shared) = Arc::new(alloc, status) else {
+            return;
+        };
+        if self.has_pages {
+            if let Ok(theirs) = Arc::try_clone(&shared) {
+                self.records
+                    .show_page(rt, PageShown::Master(theirs, silence))
+            }
+        }
         if self.has_file {
-            self.records.show(rt, Shown::Master(status))
+            self.records.show(rt, Shown::Master(shared))
         }
     }
 
@@ -228,6 +295,15 @@ impl Reporter {
 fn shared_records(alloc: Global) -> Result<Arc<Records, Global>, AllocError> {
     let records = Arc::new(alloc, Records::new(alloc)?)?;
     Ok(records)
+}
+
+/// Addresses that threads share.
+fn shared_addresses(
+    alloc: Global,
+    addresses: Addresses,
+) -> Result<Arc<Addresses, Global>, AllocError> {
+    let shared = Arc::new(alloc, addresses)?;
+    Ok(shared)
 }
 
 impl From<AllocError> for ReporterFault {

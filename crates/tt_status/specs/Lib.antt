@@ -2,8 +2,12 @@ pub mod Limit
 pub mod Master
 pub mod Digits
 pub mod Moment
+pub mod Journal
+pub mod Told
 pub mod Event
+pub mod Reason
 pub mod Metric
+pub mod Info
 pub mod Histogram
 pub mod Slewing
 pub mod Status

@@ -33,6 +33,11 @@ master_build_metric = record {
 abbrev pub keys_metric : MasterStatus → Metric
 keys_metric s = single (codes "truetime_master_keys") (codes "The keys that the master has.") Gauge (Whole s.keys)
 
+-- how often its file of keys was refused
+abbrev pub keys_refused_metric : MasterStatus → Metric
+keys_refused_metric s =
+    single (codes "truetime_master_keys_refused_total") (codes "How often the file of keys was refused; the keys before stay.") Counter (Whole s.keys_refused)
+
 -- how many answers were sealed under a key
 abbrev pub sealed_sample : KeyAnswers → Sample
 sealed_sample a = count (Key (Some a.key)) a.answers
@@ -94,7 +99,7 @@ width_metrics s = width_metric s ∷ widest_metric s ∷ []
 
 -- what a master has done itself
 abbrev pub own_metrics : MasterStatus → List Metric
-own_metrics s = (master_build_metric ∷ keys_metric s ∷ answers_metric s ∷ dropped_metric s ∷ unanswered_metric s ∷ []) ++ width_metrics s
+own_metrics s = (master_build_metric ∷ keys_metric s ∷ keys_refused_metric s ∷ answers_metric s ∷ dropped_metric s ∷ unanswered_metric s ∷ []) ++ width_metrics s
 
 -- the metrics of a master's status
 abbrev pub master_metrics_of : MasterStatus → List Metric

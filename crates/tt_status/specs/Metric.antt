@@ -6,6 +6,7 @@ use Rattle.tt_seal.specs.Fault.{number_of as seal_number_of}
 use Rattle.tt_source.specs.Fault.{number_of as source_number_of}
 use Rattle.tt_status.specs.Digits.{seconds_text, difference_text}
 use Rattle.tt_status.specs.Event.{refusal_number_of}
+use Rattle.tt_status.specs.Reason.{reason_word}
 use Rattle.tt_status.specs.declared.metrics.Kind.{Kind}
 use Rattle.tt_status.specs.declared.metrics.Kind.TheVariants.{Gauge, Counter, Histogram}
 use Rattle.tt_status.specs.declared.metrics.Value.{Value}
@@ -14,7 +15,7 @@ use Rattle.tt_status.specs.declared.metrics.Value.TheVariants as Number
 use Rattle.tt_status.specs.declared.metrics.Outcome.{Outcome}
 use Rattle.tt_status.specs.declared.metrics.Outcome.TheVariants.{Accepted, Refused, Silent}
 use Rattle.tt_status.specs.declared.metrics.Subject.{Subject}
-use Rattle.tt_status.specs.declared.metrics.Subject.TheVariants.{Machine, Version, Refusal, Source, OutcomeOf, RefusedOf, UnopenedOf, Unopened, Key, Reason, Server, AtMost, Sum, Count}
+use Rattle.tt_status.specs.declared.metrics.Subject.TheVariants.{Machine, Version, Refusal, Break, Source, OutcomeOf, RefusedOf, UnopenedOf, Unopened, Key, Reason, Server, AtMost, Sum, Count}
 
 -- a number, and what it is of
 pub record Sample : Type 0 where
@@ -64,6 +65,7 @@ abbrev pub labels_text : Subject → List ℕ
 labels_text Machine = []
 labels_text Version = label_text (codes "version") version
 labels_text (Refusal reason) = label_text (codes "number") (decimal (refusal_number_of reason))
+labels_text (Break reason) = label_text (codes "event") (reason_word reason)
 labels_text (Source source) = label_text (codes "source") (decimal source)
 labels_text (OutcomeOf source outcome) = label_text (codes "source") (decimal source) ++ label_text (codes "outcome") (outcome_word outcome)
 labels_text (RefusedOf source fault) = label_text (codes "source") (decimal source) ++ label_text (codes "number") (decimal (source_number_of fault))

@@ -1,5 +1,5 @@
 -- The text of a status: its metrics in order.
-use Rattle.std.specs.Prelude.{codes, ℕ, false, min, map, slice_index_or, Some, None, List, [], ◌∷◌, ◌++◌}
+use Rattle.std.specs.Prelude.{codes, ℕ, false, min, map, slice_index_or, Option, Some, None, List, [], ◌∷◌, ◌++◌}
 use Rattle.std.specs.List.{flat_map, range_with_len}
 use Rattle.tt_seal.specs.declared.faults.SealFault.{SealFault}
 use Rattle.tt_seal.specs.declared.faults.SealFault.TheVariants.{Length, UnknownKey, WrongTag}
@@ -7,7 +7,10 @@ use Rattle.tt_source.specs.declared.faults.SourceFault.{SourceFault}
 use Rattle.tt_source.specs.declared.faults.SourceFault.TheVariants.{NoSource, ClockBack, NoncesUsedUp, BadMessage, NotMine, OtherEpoch, NotOutstanding}
 use Rattle.tt_status.specs.Metric.{Sample, Metric, single, metric_text}
 use Rattle.tt_status.specs.Histogram.{histogram_metric}
+use Rattle.tt_status.specs.Info.{source_infos_text}
 use Rattle.tt_status.specs.Slewing.{slewing_metrics}
+use Rattle.tt_status.specs.declared.breaks.BreakReason.{BreakReason}
+use Rattle.tt_status.specs.declared.breaks.LastBreak.{LastBreak}
 use Rattle.tt_status.specs.declared.lines.RefusedFusion.TheVariants.{NoPoint, TooFewKnown}
 use Rattle.tt_status.specs.declared.metrics.Kind.{Kind}
 use Rattle.tt_status.specs.declared.metrics.Kind.TheVariants.{Gauge, Counter}
@@ -16,7 +19,7 @@ use Rattle.tt_status.specs.declared.metrics.Value.TheVariants.{Whole, Flag, Nano
 use Rattle.tt_status.specs.declared.metrics.Value.TheVariants as Number
 use Rattle.tt_status.specs.declared.metrics.Outcome.TheVariants.{Accepted, Refused, Silent}
 use Rattle.tt_status.specs.declared.metrics.Subject.{Subject}
-use Rattle.tt_status.specs.declared.metrics.Subject.TheVariants.{Version, Refusal, Source, OutcomeOf, RefusedOf, UnopenedOf}
+use Rattle.tt_status.specs.declared.metrics.Subject.TheVariants.{Version, Refusal, Break, Source, OutcomeOf, RefusedOf, UnopenedOf}
 use Rattle.tt_status.specs.declared.statuses.Aspect.{Aspect}
 use Rattle.tt_status.specs.declared.statuses.Aspect.TheVariants.{Suspicion, Rounds, Refusals, Unsent, Answered, RoundTrip, Lower, Upper, Rate, RateError, Unopened, Key}
 use Rattle.tt_status.specs.declared.statuses.SourceStatus.{SourceStatus}
@@ -189,6 +192,34 @@ break_metrics s =
     single (codes "truetime_sleep_unseen") (codes "1 as long as it would not be seen that the host sleeps, else 0.") Gauge (Flag s.sleep_unseen) ∷
     []
 
+-- when the last life broke
+abbrev pub break_time_metric : ℕ → Metric
+break_time_metric time =
+    single (codes "truetime_last_break_timestamp_seconds") (codes "When the last life that broke noticed it, since 1970; not there where none is recorded.") Gauge (Nanos (Some time))
+
+-- why it broke
+abbrev pub reason_metric : BreakReason → Metric
+reason_metric reason = record {
+  name = codes "truetime_last_break_info";
+  help = codes "The event by which that life broke; the value is always 1.";
+  kind = Gauge;
+  samples = count (Break reason) 1 ∷ [];
+}
+
+-- the same, where that is one of the reasons of this version
+abbrev pub reason_metrics : Option BreakReason → List Metric
+reason_metrics None = []
+reason_metrics (Some reason) = reason_metric reason ∷ []
+
+-- when a life broke, and why
+abbrev pub metrics_of_break : LastBreak → List Metric
+metrics_of_break last = (break_time_metric last.time ∷ []) ++ reason_metrics last.reason
+
+-- the same of the last life that broke, where it is known
+abbrev pub last_break_metrics : Option LastBreak → List Metric
+last_break_metrics None = []
+last_break_metrics (Some last) = metrics_of_break last
+
 -- what was done for clients, and who waits
 abbrev pub client_metrics : Status → List Metric
 client_metrics s =
@@ -231,12 +262,12 @@ written_metrics s =
     single (codes "truetime_records_left_out_total") (codes "Lines of the log, statuses and texts of evidence for which no place was free.") Counter (Whole s.left_out) ∷
     []
 
--- the metrics of a status
+-- the metrics of a status, but for the addresses
 abbrev pub metrics_of : Status → List Metric
 metrics_of s =
     (build_metric ∷ []) ++ publication_metrics s ++ known_metrics s ++ source_metrics s ++ round_metrics s ++ (refusals_metric s ∷ [])
-    ++ break_metrics s ++ slewing_metrics s.slewing ++ client_metrics s ++ worker_metrics s ++ histogram_metrics s ++ written_metrics s
+    ++ break_metrics s ++ last_break_metrics s.last_break ++ slewing_metrics s.slewing ++ client_metrics s ++ worker_metrics s ++ histogram_metrics s ++ written_metrics s
 
--- the text of a status: each metric, with the number of the machine at each sample
-abbrev pub status_text : Status → List ℕ
-status_text s = flat_map (metric_text s.machine) (metrics_of s)
+-- the text of a status: each metric, with the number of the machine at each sample, and that of the addresses of the sources behind them
+abbrev pub status_text : Status → List (List ℕ) → List ℕ
+status_text s addresses = flat_map (metric_text s.machine) (metrics_of s) ++ source_infos_text s.machine addresses

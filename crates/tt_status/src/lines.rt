@@ -3,10 +3,12 @@
 ghost use Rattle.std.specs.Prelude.{◌≡◌, ◌++◌, OnOk, string_bytes};
 ghost use Rattle.jiff_core.specs.declared.civil.date.Date.{Date as Day};
 ghost use Rattle.tt_status.specs.Moment.{IsDateOf};
-ghost use Rattle.tt_status.specs.Event.{event_line, head_text, left_out_text, end_text, field, rate_field, address_field, level_of, name_of, fields_of, refusal_number_of};
+ghost use Rattle.tt_status.specs.Event.{event_line, head_text, left_out_text, end_text, field, rate_field, address_field, level_of, name_of, fields_of, refusal_number_of, priority_text, number_told, place_told};
 
 use crate::digits::{Difference, push_rate};
 use crate::moments::{date_of, push_moment};
+use crate::priorities::{LogStyle, priority_of};
+use crate::told::{push_place, push_words};
 use jiff_core::civil::Date;
 use std::alloc::AllocError;
 use std::net::SocketAddr;
@@ -60,14 +62,24 @@ pub enum LogEvent {
     SourceSilent {
         source: u64,
     },
+    /// An answer of this source was accepted, and none was in the round before.
+    SourceAnswers {
+        source: u64,
+    },
     /// This source is a suspect of the fusion: its span does not meet the fused span.
     SourceSuspect {
+        source: u64,
+    },
+    /// This source is no suspect of the fusion, and was one of the fusion before.
+    SourceAgrees {
         source: u64,
     },
     /// A fusion was refused for this reason.
     FusionRefused {
         reason: RefusedFusion,
     },
+    /// A fusion was published, and the one before was refused.
+    FusionPublished,
     /// The clock could not be read, or went back.
     ClockBack,
     /// This many answers of sources were refused in a round.
@@ -78,6 +90,8 @@ pub enum LogEvent {
     RoundFailed {
         number: u64,
     },
+    /// A round ended without a fault, and the one before with one.
+    RoundsResumed,
     /// The shared file is no longer written, because of the fault of this number.
     SharingEnded {
         number: u64,
@@ -88,6 +102,8 @@ pub enum LogEvent {
     StatusUnwritten {
         errno: u64,
     },
+    /// The status file is written again.
+    StatusWritten,
     /// A connection was not accepted, for the reason of this number of the system, errno.
     NotAccepted {
         errno: u64,
@@ -109,6 +125,8 @@ pub enum LogEvent {
     MasterFailed {
         number: u64,
     },
+    /// A master's link and reference work again.
+    MasterResumed,
     /// The socket for polls failed with this number, and is made anew after this pause in nanoseconds.
     SocketRenewed {
         number: u64,
@@ -139,6 +157,8 @@ pub enum LogEvent {
     GuestDisrupted,
     /// That the host sleeps would not be seen: `CLOCK_BOOTTIME` or `CLOCK_MONOTONIC` can't be read.
     SleepUnseen,
+    /// That the host sleeps would be seen again.
+    SleepSeen,
     /// How many descriptors the process may have, how many all sessions want, and how many sessions there is room for.
     Descriptors {
         limit: u64,
@@ -150,6 +170,8 @@ pub enum LogEvent {
         answered: u64,
         needed: u64,
     },
+    /// As many sources as are needed have answered within three periods again.
+    SourcesFresh,
     /// The start waits for so long in nanoseconds, since so many lives ended by a broken assumption one behind the other.
     StartPaused {
         pause: u64,
@@ -159,6 +181,8 @@ pub enum LogEvent {
     EvidenceUnwritten {
         errno: u64,
     },
+    /// The newest evidence is written again.
+    EvidenceWritten,
     /// A packet came from this address, which is no source's.
     Stranger {
         address: SocketAddr,
@@ -196,10 +220,17 @@ pub enum LogEvent {
     },
     /// This master answers polls again.
     MasterAnswers,
-    /// The span of an answer is wider than it shall be. Both are in nanoseconds.
+    /// The span of an answer of this master, or a reading of this machine before a round, is wider than it shall be. Both are
+    /// in nanoseconds.
     WidthAbove {
         width: u64,
         limit: u64,
+    },
+    /// The span of an answer of this master, or a reading of this machine before a round, is not wider than it shall be any more.
+    WidthInBounds,
+    /// The machine stood still: this long, in nanoseconds, it ended no round.
+    StoodStill {
+        lasted: u64,
     },
     /// The real-time clock was stepped, or is off by more than was stated: this master is silent until it is started again.
     ClockStepped,
@@ -212,8 +243,13 @@ pub enum LogEvent {
     ServerSilent {
         server: u64,
     },
+    /// A reply of this server of a master was accepted, and the request before had none, or a refused one.
+    ServerAnswers {
+        server: u64,
+    },
     /// Readers of the shared file by `CLOCK_MONOTONIC` are told nothing, since it gained this against `CLOCK_MONOTONIC_RAW`
-    /// in a round, more than the setting `slew` allows. The rate is in parts per billion, the bound in parts per million.
+    /// in a round, more than the setting `slew` allows. The rate, counted in parts per billion, and the bound are
+    /// told in parts per million.
     SlewTooFast {
         rate: Difference,
         slew: u64,
@@ -230,7 +266,18 @@ impl LogEvent {
         match self {
             LogEvent::Started { .. }
             | LogEvent::FirstPublication { .. }
+            | LogEvent::SourceAnswers { .. }
+            | LogEvent::SourceAgrees { .. }
+            | LogEvent::FusionPublished
+            | LogEvent::RoundsResumed
+            | LogEvent::MasterResumed
+            | LogEvent::SleepSeen
+            | LogEvent::SourcesFresh
+            | LogEvent::ServerAnswers { .. }
             | LogEvent::SharingResumed
+            | LogEvent::StatusWritten
+            | LogEvent::EvidenceWritten
+            | LogEvent::WidthInBounds
             | LogEvent::Ended
             | LogEvent::Descriptors { .. }
             | LogEvent::MasterStarted { .. }
@@ -246,6 +293,41 @@ impl LogEvent {
         }
     }
 
+    /// The number of a refusal among its fields, if it has one.
+    pub fn number(self) -> Option<u64>
+        ensures value { result ≡ number_told self }
+    {
+        match self {
+            LogEvent::FusionRefused { reason } => Some(reason.number()),
+            LogEvent::RoundFailed { number }
+            | LogEvent::SharingEnded { number }
+            | LogEvent::MasterFailed { number }
+            | LogEvent::MasterSilent { number }
+            | LogEvent::SocketRenewed { number, .. }
+            | LogEvent::KeysRefused { number, .. }
+            | LogEvent::ServerRefused { number, .. } => Some(number),
+            _ => None,
+        }
+    }
+
+    /// The place among the sources of a machine, or among the servers of a master, of which it tells without an address.
+    pub fn place(self) -> Option<u64>
+        ensures value { result ≡ place_told self }
+    {
+        match self {
+            LogEvent::SourceSilent { source }
+            | LogEvent::SourceAnswers { source }
+            | LogEvent::SourceSuspect { source }
+            | LogEvent::SourceAgrees { source }
+            | LogEvent::SourceUnsent { source }
+            | LogEvent::SourceUnresolved { source } => Some(source),
+            LogEvent::ServerRefused { server, .. }
+            | LogEvent::ServerSilent { server }
+            | LogEvent::ServerAnswers { server } => Some(server),
+            _ => None,
+        }
+    }
+
     /// The name of the event in a line.
     fn name(self) -> &'static str
         ensures { result.now ≡ name_of self }
@@ -254,14 +336,19 @@ impl LogEvent {
             LogEvent::Started { .. } => "started",
             LogEvent::FirstPublication { .. } => "first_publication",
             LogEvent::SourceSilent { .. } => "source_silent",
+            LogEvent::SourceAnswers { .. } => "source_answers",
             LogEvent::SourceSuspect { .. } => "source_suspect",
+            LogEvent::SourceAgrees { .. } => "source_agrees",
             LogEvent::FusionRefused { .. } => "fusion_refused",
+            LogEvent::FusionPublished => "fusion_published",
             LogEvent::ClockBack => "clock_back",
             LogEvent::AnswersRefused { .. } => "answers_refused",
             LogEvent::RoundFailed { .. } => "round_failed",
+            LogEvent::RoundsResumed => "rounds_resumed",
             LogEvent::SharingEnded { .. } => "sharing_ended",
             LogEvent::SharingResumed => "sharing_resumed",
             LogEvent::StatusUnwritten { .. } => "status_unwritten",
+            LogEvent::StatusWritten => "status_written",
             LogEvent::NotAccepted { .. } => "not_accepted",
             LogEvent::StateLoose => "state_loose",
             LogEvent::EpochLoose => "epoch_loose",
@@ -269,6 +356,7 @@ impl LogEvent {
             LogEvent::Ended => "ended",
             LogEvent::MasterStarted { .. } => "master_started",
             LogEvent::MasterFailed { .. } => "master_failed",
+            LogEvent::MasterResumed => "master_resumed",
             LogEvent::SocketRenewed { .. } => "socket_renewed",
             LogEvent::PublicationSlow { .. } => "publication_slow",
             LogEvent::SourceUnsent { .. } => "source_unsent",
@@ -276,10 +364,13 @@ impl LogEvent {
             LogEvent::HostSlept { .. } => "host_slept",
             LogEvent::GuestDisrupted => "guest_disrupted",
             LogEvent::SleepUnseen => "sleep_unseen",
+            LogEvent::SleepSeen => "sleep_seen",
             LogEvent::Descriptors { .. } => "descriptors",
             LogEvent::SourcesStale { .. } => "sources_stale",
+            LogEvent::SourcesFresh => "sources_fresh",
             LogEvent::StartPaused { .. } => "start_paused",
             LogEvent::EvidenceUnwritten { .. } => "evidence_unwritten",
+            LogEvent::EvidenceWritten => "evidence_written",
             LogEvent::Stranger { .. } => "stranger",
             LogEvent::SourceUnresolved { .. } => "source_unresolved",
             LogEvent::SourceResolved { .. } => "source_resolved",
@@ -290,49 +381,75 @@ impl LogEvent {
             LogEvent::MasterSilent { .. } => "master_silent",
             LogEvent::MasterAnswers => "master_answers",
             LogEvent::WidthAbove { .. } => "width_above",
+            LogEvent::WidthInBounds => "width_in_bounds",
+            LogEvent::StoodStill { .. } => "stood_still",
             LogEvent::ClockStepped => "clock_stepped",
             LogEvent::ServerRefused { .. } => "server_refused",
             LogEvent::ServerSilent { .. } => "server_silent",
+            LogEvent::ServerAnswers { .. } => "server_answers",
             LogEvent::SlewTooFast { .. } => "slew_too_fast",
             LogEvent::SlewInBounds => "slew_in_bounds",
         }
     }
 }
 
-/// Adds the line of an event to a text: its time, given in nanoseconds since 1970 and written in UTC, its level and its
-/// name, its numbers and addresses, how many of its kind were left out before it if any were, and a line feed. As text it is like
-/// `time=2026-11-26T23:41:51.123456789Z level=warn event=fusion_refused number=504`, and as JSON like
-/// `{"time":"2026-11-26T23:41:51.123456789Z","level":"warn","event":"fusion_refused","number":504}`. Numbers of
-/// nanoseconds have names that end in `_ns`, those of parts per million in `_ppm`. Refuses only if it is out of memory; then the text may have a part of the
-/// line at its end.
+/// An event, when it was, in nanoseconds since 1970, and how many of its kind were left out before it.
+#[derive(Clone, Copy)]
+pub struct LogLine {
+    pub time: u64,
+    pub event: LogEvent,
+    pub left_out: u64,
+}
+
+/// Adds the line of an event to a text: where a journal reads it, its priority; its time, in UTC, its level and its name, its
+/// numbers and addresses, `words` as `text` and `address` as `address`, how many of its kind were left out before it if any were, and a line feed. As
+/// text it is like `time=2026-11-26T23:41:51.123456789Z level=warn event=fusion_refused number=504 text="no time is possible"`,
+/// and as JSON like
+/// `{"time":"2026-11-26T23:41:51.123456789Z","level":"warn","event":"fusion_refused","number":504,"text":"no time is possible"}`.
+/// Numbers of nanoseconds have names that end in `_ns`, those of parts per million in `_ppm`. Words and an address are left
+/// out where they are empty, or have a quotation mark, a backslash or a control character, and an address with a space too.
+/// Refuses only if it is out of memory; then the text may have a part of the line at its end.
 pub fn push_event(
     text: &mut String,
-    format: LogFormat,
-    time: u64,
-    event: LogEvent,
-    left_out: u64,
+    style: LogStyle,
+    line: LogLine,
+    words: &str,
+    address: &str,
 ) -> Result<(), AllocError>
-    ensures written { OnOk result ((date : Day) × IsDateOf time date
-        × (string_bytes text.new ≡ string_bytes text.old ++ event_line format date time event left_out)) }
+    ensures written { OnOk result ((date : Day) × IsDateOf line.time date
+        × (string_bytes text.new ≡ string_bytes text.old ++ event_line style date line words.now address.now)) }
 {
-    push_dated(text, format, date_of(time), time, event, left_out)
+    push_dated(text, style, date_of(line.time), line, words, address)
 }
 
 /// Adds the line of an event, the date of whose time is given.
 fn push_dated(
     text: &mut String,
-    format: LogFormat,
+    style: LogStyle,
     date: Date,
-    time: u64,
-    event: LogEvent,
-    left_out: u64,
+    line: LogLine,
+    words: &str,
+    address: &str,
 ) -> Result<(), AllocError>
-    ensures { OnOk result (string_bytes text.new ≡ string_bytes text.old ++ event_line format date time event left_out) }
+    ensures { OnOk result (string_bytes text.new ≡ string_bytes text.old ++ event_line style date line words.now address.now) }
 {
-    push_head(text, format, date, time, event)?;
-    push_fields(text, format, event)?;
-    push_left_out(text, format, left_out)?;
-    push_end(text, format)
+    push_priority(text, style.is_journal, line.event)?;
+    push_head(text, style.format, date, line.time, line.event)?;
+    push_fields(text, style.format, line.event)?;
+    push_words(text, style.format, words)?;
+    push_place(text, style.format, address)?;
+    push_left_out(text, style.format, line.left_out)?;
+    push_end(text, style.format)
+}
+
+/// Adds the priority of an event, where a journal reads it.
+fn push_priority(text: &mut String, is_journal: bool, event: LogEvent) -> Result<(), AllocError>
+    ensures { OnOk result (string_bytes text.new ≡ string_bytes text.old ++ priority_text is_journal event) }
+{
+    if is_journal {
+        return text.push_str(priority_of(event.level()));
+    }
+    Ok(())
 }
 
 /// Adds how many lines of a kind were left out, if any were.
@@ -444,6 +561,7 @@ fn push_fields(text: &mut String, format: LogFormat, event: LogEvent) -> Result<
         LogEvent::FirstPublication { width } => push_field(text, format, "width_ns", width),
         LogEvent::SourceSilent { source } => push_field(text, format, "source", source),
         LogEvent::SourceSuspect { source } => push_field(text, format, "source", source),
+        LogEvent::SourceAgrees { source } => push_field(text, format, "source", source),
         LogEvent::FusionRefused { reason } => push_field(text, format, "number", reason.number()),
         LogEvent::MasterFailed { number } => push_field(text, format, "number", number),
         LogEvent::MasterStarted { source, port } => {
@@ -459,6 +577,8 @@ fn push_fields(text: &mut String, format: LogFormat, event: LogEvent) -> Result<
         }
         LogEvent::PublicationSlow { lasted } => push_field(text, format, "lasted_ns", lasted),
         LogEvent::SourceUnsent { source } => push_field(text, format, "source", source),
+        LogEvent::SourceAnswers { source } => push_field(text, format, "source", source),
+        LogEvent::StoodStill { lasted } => push_field(text, format, "lasted_ns", lasted),
         LogEvent::AssumptionBroken {
             clock,
             lower,
@@ -516,10 +636,29 @@ fn push_fields(text: &mut String, format: LogFormat, event: LogEvent) -> Result<
             push_field(text, format, "number", number)
         }
         LogEvent::ServerSilent { server } => push_field(text, format, "server", server),
+        LogEvent::ServerAnswers { server } => push_field(text, format, "server", server),
         LogEvent::SlewTooFast { rate, slew } => {
             push_part(text, format, "rate_ppm", rate)?;
             push_field(text, format, "slew_ppm", slew)
         }
-        _ => Ok(()),
+        LogEvent::FusionPublished
+        | LogEvent::ClockBack
+        | LogEvent::RoundsResumed
+        | LogEvent::SharingResumed
+        | LogEvent::StatusWritten
+        | LogEvent::StateLoose
+        | LogEvent::EpochLoose
+        | LogEvent::SharedLoose
+        | LogEvent::Ended
+        | LogEvent::MasterResumed
+        | LogEvent::GuestDisrupted
+        | LogEvent::SleepUnseen
+        | LogEvent::SleepSeen
+        | LogEvent::SourcesFresh
+        | LogEvent::EvidenceWritten
+        | LogEvent::MasterAnswers
+        | LogEvent::WidthInBounds
+        | LogEvent::ClockStepped
+        | LogEvent::SlewInBounds => Ok(()),
     }
 }

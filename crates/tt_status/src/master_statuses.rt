@@ -2,7 +2,7 @@
 
 ghost use Rattle.std.specs.Prelude.{◌≡◌, ◌++◌, OnOk, string_bytes};
 ghost use Rattle.std.specs.List.{flat_map};
-ghost use Rattle.tt_status.specs.Master.{master_sample_text, master_metric_text, master_build_metric, keys_metric, sealed_sample, answers_metric, dropped_name, dropped_sample, dropped_metric, unanswered_metric, width_metrics, own_metrics, master_status_text};
+ghost use Rattle.tt_status.specs.Master.{master_sample_text, master_metric_text, master_build_metric, keys_metric, keys_refused_metric, sealed_sample, answers_metric, dropped_name, dropped_sample, dropped_metric, unanswered_metric, width_metrics, own_metrics, master_status_text};
 ghost use Rattle.tt_status.specs.Metric.{single};
 ghost use Rattle.tt_status.specs.Status.{count};
 ghost use Rattle.tt_status.specs.declared.metrics.Kind.TheVariants.{Gauge};
@@ -38,6 +38,8 @@ pub struct MasterStatus {
     pub source: u64,
     /// How many keys it has.
     pub keys: u64,
+    /// How often its file of keys was refused.
+    pub keys_refused: u64,
     /// How many answers it has sealed under each key, in the order in which they are shown.
     pub sealed: Vec<KeyAnswers>,
     /// How many answers it has given that were not sealed.
@@ -76,6 +78,7 @@ fn push_own(text: &mut String, status: &MasterStatus) -> Result<(), AllocError>
 {
     push_master_build(text, status.source)?;
     push_keys(text, status)?;
+    push_keys_refused(text, status)?;
     push_answers(text, status)?;
     push_dropped(text, status)?;
     push_unanswered(text, status)?;
@@ -103,6 +106,26 @@ fn push_keys(text: &mut String, status: &MasterStatus) -> Result<(), AllocError>
     let name = "truetime_master_keys";
     push_head(text, name, "The keys that the master has.", Kind::Gauge)?;
     push_count(text, name, status.source, Subject::Machine, status.keys)
+}
+
+/// Adds how often the file of keys was refused.
+fn push_keys_refused(text: &mut String, status: &MasterStatus) -> Result<(), AllocError>
+    ensures { OnOk result (string_bytes text.new ≡ string_bytes text.old ++ master_metric_text status.now.source (keys_refused_metric status.now)) }
+{
+    let name = "truetime_master_keys_refused_total";
+    push_head(
+        text,
+        name,
+        "How often the file of keys was refused; the keys before stay.",
+        Kind::Counter,
+    )?;
+    push_count(
+        text,
+        name,
+        status.source,
+        Subject::Machine,
+        status.keys_refused,
+    )
 }
 
 /// Adds how many answers were given, by their key.

@@ -6,6 +6,7 @@ ghost use Rattle.std.specs.Fmt.{decimal};
 ghost use Rattle.tt_status.specs.Digits.{seconds_text};
 ghost use Rattle.tt_status.specs.Metric.{kind_word, outcome_word, suffix_of, label_text, labels_text, value_text, head_text, labelled_text, sample_text, metric_text, single};
 
+use crate::breaks::BreakReason;
 use crate::digits::{Difference, push_difference, push_seconds};
 use crate::lines::RefusedFusion;
 use std::alloc::AllocError;
@@ -84,6 +85,8 @@ pub(crate) enum Subject {
     Version,
     /// The fusions that were refused for this reason.
     Refusal(RefusedFusion),
+    /// A life that broke for this reason.
+    Break(BreakReason),
     /// This source.
     Source(u64),
     /// The rounds with this outcome of this source.
@@ -206,6 +209,7 @@ fn push_labels(text: &mut String, subject: Subject) -> Result<(), AllocError>
         Subject::Machine | Subject::Sum | Subject::Count => Ok(()),
         Subject::Version => push_word(text, "version", VERSION),
         Subject::Refusal(reason) => push_number(text, "number", reason.number()),
+        Subject::Break(reason) => push_word(text, "event", reason.word()),
         Subject::Source(source) => push_number(text, "source", source),
         Subject::OutcomeOf(source, outcome) => {
             push_number(text, "source", source)?;
@@ -237,7 +241,7 @@ fn push_word(text: &mut String, name: &str, word: &str) -> Result<(), AllocError
 }
 
 /// Adds a label whose value is a number.
-fn push_number(text: &mut String, name: &str, number: u64) -> Result<(), AllocError>
+pub(crate) fn push_number(text: &mut String, name: &str, number: u64) -> Result<(), AllocError>
     ensures { OnOk result (string_bytes text.new ≡ string_bytes text.old ++ label_text name.now (decimal number)) }
 {
     write!(text, ",{name}=\"{number}\"")

@@ -1,14 +1,17 @@
 //! The status of a machine.
 
-ghost use Rattle.std.specs.Prelude.{◌≡◌, ◌<◌, ◌++◌, OnOk, string_bytes};
+ghost use Rattle.std.specs.Prelude.{◌≡◌, ◌<◌, ◌++◌, OnOk, map, string_bytes};
 ghost use Rattle.std.specs.List.{flat_map};
 ghost use Rattle.tt_status.specs.Metric.{metric_text, sample_text};
-ghost use Rattle.tt_status.specs.Status.{build_metric, publication_metrics, known_metrics, refusal_place, unopened_place, subject_of, value_of, sample_of, source_metric, source_metrics, source_round_metrics, source_answer_metrics, source_rate_metrics, source_seal_metrics, round_metrics, refusals_metric, break_metrics, client_metrics, worker_metrics, histogram_metrics, written_metrics, status_text};
+ghost use Rattle.tt_status.specs.Status.{build_metric, publication_metrics, known_metrics, refusal_place, unopened_place, subject_of, value_of, sample_of, source_metric, source_metrics, source_round_metrics, source_answer_metrics, source_rate_metrics, source_seal_metrics, round_metrics, refusals_metric, metrics_of, status_text};
 
+use crate::breaks::{LastBreak, push_breaks, push_last_break};
 use crate::digits::Difference;
-use crate::histograms::{Histogram, push_histogram};
+use crate::histograms::Histogram;
+use crate::infos::push_source_infos;
 use crate::lines::RefusedFusion;
 use crate::metrics::{Kind, Outcome, Row, Subject, Value, push_head, push_rows, push_sample};
+use crate::services::{push_clients, push_histograms, push_workers, push_written};
 use crate::slewings::{Slewing, push_slewing};
 use std::alloc::AllocError;
 use tt_seal::SealFault;
@@ -150,6 +153,8 @@ pub struct Status {
     pub breaks: u64,
     /// How many lives before this one ended by a broken assumption, as recorded at the start.
     pub broken_lives: u64,
+    /// When the last of them noticed that, and why, as recorded at the start; none if that is not known.
+    pub last_break: Option<LastBreak>,
     /// For how long the host has slept in this life, in nanoseconds.
     pub slept: u64,
     /// Whether it would not be seen that the host sleeps: the last look failed.
@@ -263,10 +268,22 @@ struct SourceRow<'a> {
 /// Adds the status to a text, in the format that Prometheus collects (its text format, version 0.0.4). Each metric has
 /// its help and its type once, before all of its samples, and each sample has the label `machine`. Times are in seconds,
 /// with nine digits behind the point, and `NaN` where there are none. The counts of a histogram are of all values that
-/// are at most a bound, and stay at 2^64 - 1. Refuses only if it is out of memory; then the text may have a part of it
-/// at its end.
-pub fn push_status(text: &mut String, status: &Status) -> Result<(), AllocError>
-    ensures written { OnOk result (string_bytes text.new ≡ string_bytes text.old ++ status_text status.now) }
+/// are at most a bound, and stay at 2^64 - 1. Behind all other metrics stand the addresses of the sources, in their order.
+/// Refuses only if it is out of memory; then the text may have a part of it at its end.
+pub fn push_status(
+    text: &mut String,
+    status: &Status,
+    addresses: &[String],
+) -> Result<(), AllocError>
+    ensures written { OnOk result (string_bytes text.new ≡ string_bytes text.old ++ status_text status.now (map string_bytes addresses.now)) }
+{
+    push_numbers(text, status)?;
+    push_source_infos(text, status.machine, addresses)
+}
+
+/// Adds the metrics of numbers.
+fn push_numbers(text: &mut String, status: &Status) -> Result<(), AllocError>
+    ensures { OnOk result (string_bytes text.new ≡ string_bytes text.old ++ flat_map (metric_text status.now.machine) (metrics_of status.now)) }
 {
     push_build(text, status.machine)?;
     push_publication(text, status)?;
@@ -275,6 +292,7 @@ pub fn push_status(text: &mut String, status: &Status) -> Result<(), AllocError>
     push_rounds(text, status)?;
     push_refusals(text, status)?;
     push_breaks(text, status)?;
+    push_last_break(text, status.machine, &status.last_break)?;
     push_slewing(text, status.machine, &status.slewing)?;
     push_clients(text, status)?;
     push_workers(text, status)?;
@@ -616,180 +634,4 @@ fn push_refusals(text: &mut String, status: &Status) -> Result<(), AllocError>
     push_sample(text, name, machine, no_point, Value::Whole(status.no_point))?;
     let too_few = Subject::Refusal(RefusedFusion::TooFewKnown);
     push_sample(text, name, machine, too_few, Value::Whole(status.too_few))
-}
-
-/// Adds what came of strangers, and what was seen of broken assumptions.
-fn push_breaks(text: &mut String, status: &Status) -> Result<(), AllocError>
-    ensures { OnOk result (string_bytes text.new ≡ string_bytes text.old
-        ++ flat_map (metric_text status.now.machine) (break_metrics status.now)) }
-{
-    push_rows(
-        text,
-        status.machine,
-        &[
-            Row {
-                name: "truetime_strangers_total",
-                help: "Packets from addresses that are no source's.",
-                kind: Kind::Counter,
-                value: Value::Whole(status.strangers),
-            },
-            Row {
-                name: "truetime_assumption_breaks_total",
-                help: "Signs that an assumption of the service is broken.",
-                kind: Kind::Counter,
-                value: Value::Whole(status.breaks),
-            },
-            Row {
-                name: "truetime_broken_lives_total",
-                help: "Lives before this one that ended since an assumption was broken.",
-                kind: Kind::Counter,
-                value: Value::Whole(status.broken_lives),
-            },
-            Row {
-                name: "truetime_slept_seconds_total",
-                help: "For how long the host has slept in this life.",
-                kind: Kind::Counter,
-                value: Value::Nanos(Some(status.slept)),
-            },
-            Row {
-                name: "truetime_sleep_unseen",
-                help: "1 as long as it would not be seen that the host sleeps, else 0.",
-                kind: Kind::Gauge,
-                value: Value::Flag(status.sleep_unseen),
-            },
-        ],
-    )
-}
-
-/// Adds what was done for clients, and who waits.
-fn push_clients(text: &mut String, status: &Status) -> Result<(), AllocError>
-    ensures { OnOk result (string_bytes text.new ≡ string_bytes text.old
-        ++ flat_map (metric_text status.now.machine) (client_metrics status.now)) }
-{
-    push_rows(
-        text,
-        status.machine,
-        &[
-            Row {
-                name: "truetime_sessions_total",
-                help: "Sessions that have ended.",
-                kind: Kind::Counter,
-                value: Value::Whole(status.sessions),
-            },
-            Row {
-                name: "truetime_lines_total",
-                help: "Lines of clients that were answered.",
-                kind: Kind::Counter,
-                value: Value::Whole(status.lines),
-            },
-            Row {
-                name: "truetime_lines_refused_total",
-                help: "Lines of clients that were refused.",
-                kind: Kind::Counter,
-                value: Value::Whole(status.refused_lines),
-            },
-            Row {
-                name: "truetime_connections_waiting",
-                help: "Connections that wait for a worker.",
-                kind: Kind::Gauge,
-                value: Value::Whole(status.waiting),
-            },
-            Row {
-                name: "truetime_connections_unserved_total",
-                help: "Connections that were closed before their session began.",
-                kind: Kind::Counter,
-                value: Value::Whole(status.unserved),
-            },
-        ],
-    )
-}
-
-/// Adds who serves clients, and what they wait for.
-fn push_workers(text: &mut String, status: &Status) -> Result<(), AllocError>
-    ensures { OnOk result (string_bytes text.new ≡ string_bytes text.old
-        ++ flat_map (metric_text status.now.machine) (worker_metrics status.now)) }
-{
-    push_rows(
-        text,
-        status.machine,
-        &[
-            Row {
-                name: "truetime_workers",
-                help: "Workers, each of which serves its sessions by turns.",
-                kind: Kind::Gauge,
-                value: Value::Whole(status.workers),
-            },
-            Row {
-                name: "truetime_workers_busy",
-                help: "Workers that have a session.",
-                kind: Kind::Gauge,
-                value: Value::Whole(status.busy),
-            },
-            Row {
-                name: "truetime_sessions_open",
-                help: "Sessions that are open.",
-                kind: Kind::Gauge,
-                value: Value::Whole(status.open_sessions),
-            },
-            Row {
-                name: "truetime_commits_waiting",
-                help: "Commits that wait.",
-                kind: Kind::Gauge,
-                value: Value::Whole(status.commits_waiting),
-            },
-        ],
-    )
-}
-
-/// Adds the histograms.
-fn push_histograms(text: &mut String, status: &Status) -> Result<(), AllocError>
-    ensures { OnOk result (string_bytes text.new ≡ string_bytes text.old
-        ++ flat_map (metric_text status.now.machine) (histogram_metrics status.now)) }
-{
-    push_histogram(
-        text,
-        status.machine,
-        "truetime_commit_wait_seconds",
-        "How long commits have waited.",
-        &status.commit_waits,
-    )?;
-    push_histogram(
-        text,
-        status.machine,
-        "truetime_round_trip_seconds",
-        "The round trips of accepted answers.",
-        &status.round_trips,
-    )?;
-    push_histogram(
-        text,
-        status.machine,
-        "truetime_reading_width_seconds",
-        "The widths of the publications.",
-        &status.reading_widths,
-    )
-}
-
-/// Adds what is written for others.
-fn push_written(text: &mut String, status: &Status) -> Result<(), AllocError>
-    ensures { OnOk result (string_bytes text.new ≡ string_bytes text.old
-        ++ flat_map (metric_text status.now.machine) (written_metrics status.now)) }
-{
-    push_rows(
-        text,
-        status.machine,
-        &[
-            Row {
-                name: "truetime_sharing",
-                help: "1 as long as a shared file is written, else 0.",
-                kind: Kind::Gauge,
-                value: Value::Flag(status.sharing),
-            },
-            Row {
-                name: "truetime_records_left_out_total",
-                help: "Lines of the log, statuses and texts of evidence for which no place was free.",
-                kind: Kind::Counter,
-                value: Value::Whole(status.left_out),
-            },
-        ],
-    )
 }

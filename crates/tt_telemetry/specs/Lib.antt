@@ -1,3 +1,4 @@
 pub mod Records
+pub mod Trouble
 pub mod Notice
 pub mod Status

@@ -1,5 +1,5 @@
 -- The records of a round: what is counted, logged, shown and shared of it. And the status.
-use Rattle.std.specs.Prelude.{◌≡◌, ℕ, ◌-◌, ◌+◌, ◌^◌, ◌++◌, ◌∷◌, [], nat_eq, nat_lt, min, map, if◌then◌else◌, Bool, true, false, List, slice_get, slice_index_or, slice_set, Option, Some, None, Result, Ok, Err, option_map, replicate, take}
+use Rattle.std.specs.Prelude.{◌≡◌, ℕ, ◌-◌, ◌+◌, ◌^◌, ◌++◌, ◌∷◌, [], nat_eq, nat_lt, min, map, ◌&&◌, if◌then◌else◌, Bool, true, false, List, slice_get, slice_index_or, slice_set, Option, Some, None, Result, Ok, Err, option_map, replicate, take}
 use Rattle.std.specs.List.{filter, range_with_len}
 use Rattle.tt_source.specs.declared.faults.SourceFault.{SourceFault}
 use Rattle.tt_span.specs.Interval.{Interval}
@@ -20,13 +20,13 @@ use Rattle.tt_rounds.specs.declared.rounds.Rounds.{Rounds}
 use Rattle.tt_rounds.specs.Reports.{silent as silent_report}
 use Rattle.tt_shared.specs.declared.slots.SharedSpan.{SharedSpan}
 use Rattle.tt_status.specs.declared.lines.LogEvent.{LogEvent}
-use Rattle.tt_status.specs.declared.lines.LogEvent.TheVariants.{AnswersRefused, FirstPublication, ClockBack, FusionRefused, RoundFailed, SourceSilent, SourceSuspect, SourceUnsent}
+use Rattle.tt_status.specs.declared.lines.LogEvent.TheVariants.{AnswersRefused, FirstPublication, ClockBack, FusionRefused, RoundFailed, SourceAnswers, SourceSilent, SourceSuspect, SourceUnsent}
 use Rattle.tt_status.specs.declared.lines.RefusedFusion.TheVariants as refusal
 use Rattle.tt_status.specs.Status.{refusal_place}
 use Rattle.tt_status.specs.declared.digits.Difference.{Difference}
 use Rattle.tt_sharing.specs.Share.{shared_of}
 use Rattle.tt_telemetry.specs.declared.records.About.{About}
-use Rattle.tt_telemetry.specs.declared.records.About.TheVariants.{Silent, Suspect, Unsent}
+use Rattle.tt_telemetry.specs.declared.records.About.TheVariants.{Answers, Silent, Suspect, Unsent}
 use Rattle.tt_telemetry.specs.declared.records.Events.{Events}
 use Rattle.tt_telemetry.specs.declared.records.Ends.{Ends}
 use Rattle.tt_telemetry.specs.declared.records.Outcome.{Outcome}
@@ -73,7 +73,7 @@ has_link_failed outcome = false
 
 -- nothing is counted of a source
 abbrev pub no_source_tally : SourceTally
-no_source_tally = record { accepted = 0; refused = 0; silent = 0; refusals = replicate 7 0 }
+no_source_tally = record { accepted = 0; refused = 0; silent = 0; refusals = replicate 7 0; unheard = false }
 
 -- one more refusal for a reason is counted
 abbrev pub refusals_after : List ℕ → SourceFault → List ℕ
@@ -81,9 +81,9 @@ refusals_after refusals fault = slice_set refusals (refusal_place fault) (one_mo
 
 -- what came of a source in one more round is counted
 abbrev pub counted_source : SourceOutcome → SourceTally → SourceTally
-counted_source source.Silent t = record t { silent = one_more t.silent }
-counted_source (source.Accepted received) t = record t { accepted = one_more t.accepted }
-counted_source (source.Refused received fault) t = record t { refused = one_more t.refused; refusals = refusals_after t.refusals fault }
+counted_source source.Silent t = record t { silent = one_more t.silent; unheard = true }
+counted_source (source.Accepted received) t = record t { accepted = one_more t.accepted; unheard = false }
+counted_source (source.Refused received fault) t = record t { refused = one_more t.refused; refusals = refusals_after t.refusals fault; unheard = true }
 
 -- what is reported of a source
 abbrev pub report_at : List SourceReport → ℕ → SourceReport
@@ -163,6 +163,18 @@ abbrev pub is_silent : SourceOutcome → Bool
 is_silent source.Silent = true
 is_silent outcome = false
 
+-- an answer of it was accepted
+abbrev pub is_accepted : SourceOutcome → Bool
+is_accepted (source.Accepted received) = true
+is_accepted outcome = false
+
+-- an answer of a source was accepted, and none was in the round before
+abbrev pub has_answered : SourceTally → SourceReport → Bool
+has_answered t report = t.unheard && is_accepted report.outcome
+
+abbrev pub answers_again : List SourceTally → List SourceReport → ℕ → Bool
+answers_again each sources k = has_answered (tally_at each k) (report_at sources k)
+
 -- a packet to a source could not be sent since the last round
 abbrev pub has_unsent : UnsentPackets → ℕ → Bool
 has_unsent unsent k = nat_lt (slice_index_or unsent.before k 0) (slice_index_or unsent.after k 0)
@@ -172,6 +184,7 @@ abbrev pub event_about : About → ℕ → LogEvent
 event_about Suspect k = SourceSuspect k
 event_about Silent k = SourceSilent k
 event_about Unsent k = SourceUnsent k
+event_about Answers k = SourceAnswers k
 
 -- what is logged of a fusion that was refused
 abbrev pub refusal_event : DaemonFault → LogEvent
@@ -197,7 +210,8 @@ abbrev pub some_event : Option LogEvent → List LogEvent
 some_event (Some event) = event ∷ []
 some_event None = []
 
--- what is logged of a round, in this order: the suspects of its fusion, what it came to, the answers that were refused, the sources that were silent, and those to which a packet could not be sent
-abbrev pub events_of : List ℕ → Option LogEvent → Option LogEvent → List ℕ → List ℕ → List LogEvent
-events_of suspects outcome refused silent unsent =
+-- what is logged of a round, in this order: the suspects of its fusion, what it came to, the answers that were refused, the sources that were silent, those to which a packet could not be sent, and those that answer again
+abbrev pub events_of : List ℕ → Option LogEvent → Option LogEvent → List ℕ → List ℕ → List ℕ → List LogEvent
+events_of suspects outcome refused silent unsent answering =
     map (event_about Suspect) suspects ++ some_event outcome ++ some_event refused ++ map (event_about Silent) silent ++ map (event_about Unsent) unsent
+    ++ map (event_about Answers) answering

@@ -9,10 +9,13 @@ use Rattle.tt_host.specs.declared.slews.Slewing.{Slewing as Slewed}
 use Rattle.tt_health.specs.Answers.{nth_newest}
 use Rattle.tt_health.specs.Rate.{new_track, rate_of}
 use Rattle.tt_health.specs.declared.answers.Answer.{Answer}
+use Rattle.tt_health.specs.declared.pauses.BreakMoment.{BreakMoment}
 use Rattle.tt_health.specs.declared.rates.Rate.{Rate}
 use Rattle.tt_rounds.specs.Awaiting.{unsent_at}
 use Rattle.tt_rounds.specs.Hearing.{opening_at}
 use Rattle.tt_rounds.specs.declared.openings.Opening.{Opening}
+use Rattle.tt_status.specs.Reason.{reason_of}
+use Rattle.tt_status.specs.declared.breaks.LastBreak.{LastBreak}
 use Rattle.tt_status.specs.declared.digits.Difference.{Difference}
 use Rattle.tt_status.specs.declared.slewings.Slewing.{Slewing}
 use Rattle.tt_status.specs.declared.statuses.SourceStatus.{SourceStatus}
@@ -76,6 +79,11 @@ gain_in (Some rate) = Some (record { below = rate.below; size = rate.size })
 -- what is shown of how the slewed clock goes: its readers are told nothing as long as it is too fast
 abbrev pub slewing_in : Slewed → Slewing
 slewing_in slewing = record { rate = gain_in slewing.rate; is_withdrawn = slewing.is_too_fast; withdrawals = slewing.begun }
+
+-- what is shown of a break that is recorded
+abbrev pub last_break_in : Option BreakMoment → Option LastBreak
+last_break_in None = None
+last_break_in (Some moment) = Some (record { time = moment.time; reason = reason_of moment.reason })
 
 -- the error of a rate
 abbrev pub error_in : Option Rate → Option ℕ
@@ -183,6 +191,7 @@ status_of machine t shown notices unsent seals strangers work now = record {
   strangers = strangers;
   breaks = notices.breaks;
   broken_lives = machine.broken_lives;
+  last_break = last_break_in machine.last_break;
   slept = notices.slept;
   sleep_unseen = notices.sleep_unseen;
   slewing = slewing_in notices.slewing;

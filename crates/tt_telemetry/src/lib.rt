@@ -14,11 +14,13 @@
 //! and shared of its publication, and each number of the status.
 //!
 //! - `records`: what is counted, logged, shown and shared of a round. `notices`: what is noticed of it. `statuses`: the status.
+//!   `troubles`: when they begin and end, and a machine that stood still.
 #![tactic(auto)]
 
 mod notices;
 mod records;
 mod statuses;
+mod troubles;
 
 pub use notices::{Notices, Unmet, fresh_answers, is_stale, needed_by, unmet_of};
 pub use records::{
@@ -26,5 +28,9 @@ pub use records::{
     records_of, suspects_in,
 };
 pub use statuses::{
-    Account, Machine, NO_SEALS, SourceNotice, SourceSeals, Work, gain_in, status_of,
+    Account, Machine, NO_SEALS, SourceNotice, SourceSeals, Work, gain_in, status_of, width_shown,
+};
+pub use troubles::{
+    Troubles, agreeing_sources, fusion_event, has_failed_after, is_refused_after, is_wide,
+    resumed_event, sleep_event, stale_event, stood_still, width_event,
 };

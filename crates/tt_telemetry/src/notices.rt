@@ -10,6 +10,7 @@ ghost use Rattle.tt_telemetry.specs.Notice.{TellsApart, TellsUnmet, is_stale, ne
 ghost use Rattle.tt_telemetry.specs.declared.notices.Unmet.{Unmet as TheUnmet};
 
 use crate::records::Shown;
+use crate::troubles::Troubles;
 use tt_daemon::{Config, Fused, MAX_SOURCES};
 use tt_health::{
     Answer, Sample, TRIP_BOUNDS, Track, WIDTH_BOUNDS, aged_last, answers_after, meets_last,
@@ -155,6 +156,8 @@ pub struct Notices {
     pub sleep_unseen: bool,
     /// How `CLOCK_MONOTONIC` is slewed.
     pub slewing: Slewing,
+    /// What it was troubled by when the last round had ended.
+    pub troubles: Troubles,
 }
 
 /// Whether an answer was accepted.
@@ -175,6 +178,7 @@ impl Notices {
             slept: 0,
             sleep_unseen: false,
             slewing: Slewing::new(),
+            troubles: Troubles::new(),
         }
     }
 

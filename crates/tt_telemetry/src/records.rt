@@ -2,7 +2,7 @@
 
 ghost use Rattle.std.specs.Prelude.{◌≡◌, ◌+◌, ◌<◌, ◌≤◌, ◌++◌, ◌∷◌, [], Some, map, length};
 ghost use Rattle.tt_span.specs.Sources.{max_sources};
-ghost use Rattle.tt_telemetry.specs.Records.{Shows, counted_source, difference_of, each_after, ends_at, ends_of, event_about, event_of, events_in, events_of, has_link_failed, has_unsent, is_silent, numbers_where, outcome_of, published_in, refusal_event, refusals_after, refused_answers, refused_event, report_at, some_event, span_of, suspects_in, totals_after};
+ghost use Rattle.tt_telemetry.specs.Records.{Shows, answers_again, counted_source, difference_of, each_after, ends_at, ends_of, event_about, event_of, events_in, events_of, has_answered, has_link_failed, has_unsent, is_accepted, is_silent, numbers_where, outcome_of, published_in, refusal_event, refusals_after, refused_answers, refused_event, report_at, some_event, span_of, suspects_in, totals_after};
 
 use arrayvec::ArrayVec;
 use tt_daemon::{DaemonFault, Fused, MAX_SOURCES};
@@ -15,8 +15,8 @@ use tt_source::SourceFault;
 use tt_span::Span;
 use tt_status::{Difference, LogEvent, REASONS, RefusedFusion, refusal_place};
 
-/// The most events of one round: three of each source, one of what the round came to, and one of its refused answers.
-const MAX_EVENTS: usize = 50;
+/// The most events of one round: four of each source, one of what the round came to, and one of its refused answers.
+const MAX_EVENTS: usize = 66;
 
 /// What a round came to.
 #[derive(Clone, Copy)]
@@ -42,6 +42,8 @@ pub struct SourceTally {
     pub silent: u64,
     /// Of those in which all were refused, how many for each reason of the last refusal, by [`refusal_place`].
     pub refusals: [u64; REASONS],
+    /// Whether no answer was accepted in the last round; false before the first.
+    pub unheard: bool,
 }
 
 /// Counts of what the rounds of a life have done so far. Each count stays at 2^64 - 1 once it is reached.
@@ -90,6 +92,8 @@ pub enum About {
     Silent,
     /// A packet to it could not be sent.
     Unsent,
+    /// An answer of it was accepted, and none was in the round before.
+    Answers,
 }
 
 impl About {
@@ -102,6 +106,7 @@ impl About {
             About::Suspect => LogEvent::SourceSuspect { source },
             About::Silent => LogEvent::SourceSilent { source },
             About::Unsent => LogEvent::SourceUnsent { source },
+            About::Answers => LogEvent::SourceAnswers { source },
         }
     }
 }
@@ -127,7 +132,7 @@ impl Events {
 
     /// Adds an event. Requires: there is room.
     fn push(&mut self, event: LogEvent)
-        requires room { self.old.count < 50 }
+        requires room { self.old.count < 66 }
         ensures events { events_in self.new ≡ events_in self.old ++ event ∷ [] }
         ensures count { self.new.count ≡ self.old.count + 1 }
     {
@@ -137,7 +142,7 @@ impl Events {
 
     /// Adds an event, if there is one. Requires: there is room.
     fn push_some(&mut self, event: Option<LogEvent>)
-        requires room { self.old.count < 50 }
+        requires room { self.old.count < 66 }
         ensures events { events_in self.new ≡ events_in self.old ++ some_event event }
         ensures count { self.new.count ≤ self.old.count + 1 }
     {
@@ -148,7 +153,7 @@ impl Events {
 
     /// Adds an event about each of these sources. Requires: there is room.
     fn push_each(&mut self, about: About, sources: &[u8])
-        requires room { self.old.count + length sources.now ≤ 50 }
+        requires room { self.old.count + length sources.now ≤ 66 }
         ensures events { events_in self.new ≡ events_in self.old ++ map (event_about about) sources.now }
         ensures count { self.new.count ≡ self.old.count + length sources.now }
     {
@@ -159,7 +164,7 @@ impl Events {
 
     /// The events. Requires: there are not more than have room.
     pub fn as_slice(&self) -> &[LogEvent]
-        requires in_range { self.now.count ≤ 50 }
+        requires in_range { self.now.count ≤ 66 }
         ensures value { result.now ≡ events_in self.now }
     {
         &self.all[..self.count]
@@ -179,6 +184,8 @@ pub struct RoundRecords {
     pub span: Option<SharedSpan>,
     /// Whether the socket failed, so that it has to be made anew.
     pub link_failed: bool,
+    /// What the round came to.
+    pub outcome: Outcome,
 }
 
 /// What a round came to.
@@ -243,6 +250,7 @@ impl SourceTally {
         ensures value { result ≡ counted_source outcome self.now }
     {
         let mut next = *self;
+        next.unheard = !is_accepted(&outcome);
         match outcome {
             SourceOutcome::Silent => next.silent = next.silent.saturating_add(1),
             SourceOutcome::Accepted { .. } => next.accepted = next.accepted.saturating_add(1),
@@ -275,6 +283,7 @@ const NO_ROUND: SourceTally = SourceTally {
     refused: 0,
     silent: 0,
     refusals: [0; REASONS],
+    unheard: false,
 };
 
 impl Totals {
@@ -460,6 +469,39 @@ fn refused_event(refused: u64) -> Option<LogEvent>
     }
 }
 
+/// Whether an answer of a source was accepted.
+fn is_accepted(outcome: &SourceOutcome) -> bool
+    ensures { result ≡ is_accepted outcome.now }
+{
+    matches!(outcome, SourceOutcome::Accepted { .. })
+}
+
+/// Whether an answer of a source was accepted in a round with this report, and none in the round before, by what is counted
+/// of it.
+fn has_answered(tally: &SourceTally, source: &SourceReport) -> bool
+    ensures { result ≡ has_answered tally.now source.now }
+{
+    tally.unheard && is_accepted(&source.outcome)
+}
+
+/// Those of the first `count` sources of which an answer was accepted, and none in the round before.
+fn answering_sources(
+    each: &[SourceTally; MAX_SOURCES],
+    sources: &[SourceReport; MAX_SOURCES],
+    count: usize,
+) -> ArrayVec<u8, MAX_SOURCES>
+    requires few { count ≤ max_sources }
+    ensures value { result.items ≡ numbers_where (answers_again each.now sources.now) count }
+{
+    let mut answering = ArrayVec::new();
+    for source in 0..count {
+        if has_answered(&each[source], &sources[source]) {
+            answering.push(source as u8);
+        }
+    }
+    answering
+}
+
 /// Whether no packet came from a source.
 fn is_silent(outcome: &SourceOutcome) -> bool
     ensures { result ≡ is_silent outcome.now }
@@ -495,20 +537,22 @@ fn unsent_sources(unsent: &UnsentPackets, count: usize) -> ArrayVec<u8, MAX_SOUR
     lost
 }
 
-/// What is logged of a round: its suspects, what it came to, its refused answers, its silent sources, and those to which
-/// a packet could not be sent.
+/// What is logged of a round: its suspects, what it came to, its refused answers, its silent sources, those to which
+/// a packet could not be sent, and those that answer again.
 fn events_of(
     suspects: &[u8],
     outcome: Option<LogEvent>,
     refused: Option<LogEvent>,
     silent: &[u8],
     unsent: &[u8],
+    answering: &[u8],
 ) -> Events
     requires few_suspects { length suspects.now ≤ max_sources }
     requires few_silent { length silent.now ≤ max_sources }
     requires few_unsent { length unsent.now ≤ max_sources }
-    ensures value { events_in result ≡ events_of suspects.now outcome refused silent.now unsent.now }
-    ensures in_range { result.count ≤ 50 }
+    requires few_answering { length answering.now ≤ max_sources }
+    ensures value { events_in result ≡ events_of suspects.now outcome refused silent.now unsent.now answering.now }
+    ensures in_range { result.count ≤ 66 }
 {
     let mut events = Events::new();
     events.push_each(About::Suspect, suspects);
@@ -516,30 +560,8 @@ fn events_of(
     events.push_some(refused);
     events.push_each(About::Silent, silent);
     events.push_each(About::Unsent, unsent);
+    events.push_each(About::Answers, answering);
     events
-}
-
-/// What is logged of a round that shows this and came to this outcome after so many publications.
-fn events_after(
-    shown: &Option<Shown>,
-    outcome: &Outcome,
-    published: u64,
-    refused: u64,
-    silent: &[u8],
-    unsent: &[u8],
-) -> Events
-    requires few_silent { length silent.now ≤ max_sources }
-    requires few_unsent { length unsent.now ≤ max_sources }
-    ensures value { events_in result ≡ events_of (suspects_in shown.now) (event_of outcome.now published) (refused_event refused) silent.now unsent.now }
-    ensures in_range { result.count ≤ 50 }
-{
-    events_of(
-        suspects_in(shown),
-        event_of(outcome, published),
-        refused_event(refused),
-        silent,
-        unsent,
-    )
 }
 
 /// All records of a round that comes after the rounds of `totals`: of what the call of the round answered, what it
@@ -559,12 +581,14 @@ pub fn records_of(
         (event_of (outcome_of did.now report.now.fusion) totals.now.published)
         (refused_event (refused_answers did.now))
         (numbers_where (λ k. is_silent (report_at report.now.sources k).outcome) terms.now.config.sources)
-        (numbers_where (has_unsent unsent.now) terms.now.config.sources) }
-    ensures in_range { result.events.count ≤ 50 }
+        (numbers_where (has_unsent unsent.now) terms.now.config.sources)
+        (numbers_where (answers_again totals.now.each report.now.sources) terms.now.config.sources) }
+    ensures in_range { result.events.count ≤ 66 }
     ensures totals { result.totals ≡ totals_after totals.now (outcome_of did.now report.now.fusion) (refused_answers did.now) report.now.sources }
     ensures shown { Shows (published_in did.now report.now.fusion) result.shown }
     ensures span { result.span ≡ span_of (published_in did.now report.now.fusion) totals.now terms.now needed }
     ensures link_failed { result.link_failed ≡ has_link_failed (outcome_of did.now report.now.fusion) }
+    ensures outcome { result.outcome ≡ outcome_of did.now report.now.fusion }
 {
     let outcome = outcome_of(did, report);
     let refused = refused_answers(did);
@@ -572,13 +596,14 @@ pub fn records_of(
     let sources = terms.config.sources();
     let silent = silent_sources(&report.sources, sources);
     let lost = unsent_sources(unsent, sources);
-    let events = events_after(
-        &shown,
-        &outcome,
-        totals.published,
-        refused,
+    let answering = answering_sources(&totals.each, &report.sources, sources);
+    let events = events_of(
+        suspects_in(&shown),
+        event_of(&outcome, totals.published),
+        refused_event(refused),
         silent.as_slice(),
         lost.as_slice(),
+        answering.as_slice(),
     );
     RoundRecords {
         events,
@@ -586,5 +611,6 @@ pub fn records_of(
         shown,
         span,
         link_failed: has_link_failed(&outcome),
+        outcome,
     }
 }

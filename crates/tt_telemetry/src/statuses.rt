@@ -2,17 +2,18 @@
 
 ghost use Rattle.std.specs.Prelude.{◌≡◌, ◌<◌};
 ghost use Rattle.tt_telemetry.specs.Records.{suspects_in};
-ghost use Rattle.tt_telemetry.specs.Status.{age_from, age_in, answered_in, difference_in, each_status, ends_in, error_in, gain_in, is_among, lower_in, slewing_in, source_status, status_of, trip_in, upper_in, width_at, width_in};
+ghost use Rattle.tt_telemetry.specs.Status.{age_from, age_in, answered_in, difference_in, each_status, ends_in, error_in, gain_in, is_among, last_break_in, lower_in, slewing_in, source_status, status_of, trip_in, upper_in, width_at, width_in};
 
 use crate::notices::{Notices, needed_by};
 use crate::records::{Ends, Shown, SourceTally, Totals, suspects_in};
 use tt_daemon::{Config, MAX_SOURCES};
-use tt_health::{Answer, Rate, nth_newest};
+use tt_health::{Answer, BreakMoment, Rate, nth_newest};
 use tt_host::{SlewRate, Slewing};
 use tt_publish::FusedSpan;
 use tt_span::Drift;
 use tt_status::{
-    Difference, Histogram, REASONS, Slewing as SlewingStatus, SourceStatus, Status, UNOPENED,
+    BreakReason, Difference, Histogram, LastBreak, REASONS, Slewing as SlewingStatus, SourceStatus,
+    Status, UNOPENED,
 };
 
 /// Counts of what the sessions and the log have done so far, and of what waits.
@@ -49,10 +50,12 @@ pub struct Machine {
     pub sharing: bool,
     /// How many lives before this one ended by a break.
     pub broken_lives: u64,
+    /// When the last of them did, and why, if that is known.
+    pub last_break: Option<BreakMoment>,
 }
 
 /// Whether this number is among these.
-fn is_among(number: u8, numbers: &[u8]) -> bool
+pub(crate) fn is_among(number: u8, numbers: &[u8]) -> bool
     ensures { result ≡ is_among number numbers.now }
 {
     for other in numbers {
@@ -164,6 +167,19 @@ fn slewing_in(slewing: &Slewing) -> SlewingStatus
         rate: gain_in(slewing.rate),
         is_withdrawn: slewing.is_too_fast,
         withdrawals: slewing.begun,
+    }
+}
+
+/// What is shown of a break that is recorded.
+fn last_break_in(moment: Option<BreakMoment>) -> Option<LastBreak>
+    ensures value { result ≡ last_break_in moment }
+{
+    match moment {
+        Some(moment) => Some(LastBreak {
+            time: moment.time,
+            reason: BreakReason::of(moment.reason),
+        }),
+        None => None,
     }
 }
 
@@ -285,6 +301,17 @@ fn width_at(fused: &FusedSpan, drift: Drift, now: u64) -> Option<u64>
     }
 }
 
+/// The width of a reading of what is shown when the clock shows `now`, in nanoseconds. None where there is nothing, or
+/// where it can't be read: the clock shows less than it did for it, or more than the greatest time.
+pub fn width_shown(shown: &Option<Shown>, drift: Drift, now: u64) -> Option<u64>
+    ensures value { result ≡ width_in shown.now drift now }
+{
+    match shown {
+        Some(shown) => width_at(&shown.fused, drift, now),
+        None => None,
+    }
+}
+
 /// The width of a reading of what is shown when the clock shows `now`, and how long ago it was fused.
 fn width_and_age(shown: &Option<Shown>, drift: Drift, now: u64) -> (Option<u64>, Option<u64>)
     ensures width { result.0 ≡ width_in shown.now drift now }
@@ -350,6 +377,7 @@ pub fn status_of(machine: &Machine, account: &Account<'_>, work: &Work, now: u64
         strangers: account.strangers,
         breaks: notices.breaks,
         broken_lives: machine.broken_lives,
+        last_break: last_break_in(machine.last_break),
         slept: notices.slept,
         sleep_unseen: notices.sleep_unseen,
         slewing: slewing_in(&notices.slewing),

@@ -74,7 +74,7 @@ axis_text ruler fused number =
 
 -- what stands there in place of the fused span
 abbrev pub no_fused : ℕ → List ℕ
-no_fused number = join (codes "<text x=\"8\" y=\"" ∷ decimal (row_of number + 34) ∷ codes "\">no evidence yet</text>\n" ∷ [])
+no_fused number = join (codes "<text x=\"8\" y=\"" ∷ decimal (row_of number + 34) ∷ codes "\">no evidence file</text>\n" ∷ [])
 
 -- the same on an axis
 abbrev pub chart_on : Ruler → Form → Interval → List SourceView → List ℕ

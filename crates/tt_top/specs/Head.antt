@@ -49,7 +49,7 @@ scale_text form scale = join (codes "each =" ∷ length_text scale.step ∷ blan
 
 -- the line in place of it where there is no evidence
 abbrev pub no_scale_text : Form → List ℕ
-no_scale_text form = join (codes "no evidence yet " ∷ blanks_text (bar_columns form - 10) ∷ titles ∷ [])
+no_scale_text form = join (codes "no evidence file" ∷ blanks_text (bar_columns form - 10) ∷ titles ∷ [])
 
 -- the last of these widths, as many as have a column
 abbrev pub shown_of : Form → List ℕ → List ℕ

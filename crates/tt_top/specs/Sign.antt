@@ -86,7 +86,9 @@ wide_text form width =
 
 -- why the life before broke, if that is known
 abbrev pub reason_word : Broke → List ℕ
-reason_word broke = if broke.by_assumption then codes " ago: assumption_broken" else codes " ago"
+reason_word broke =
+    if broke.by_assumption then codes " ago: assumption_broken"
+    else (if broke.by_sleep then codes " ago: host_slept" else (if broke.by_guest then codes " ago: guest_disrupted" else codes " ago"))
 
 -- the life before broke, and that is at most ten minutes ago
 abbrev pub broke_text : Form → Broke → List ℕ

@@ -111,6 +111,8 @@ unfoldable pub broke_of : List ℕ → ℕ → Broke
 broke_of status machine = record {
   at = count_of status machine (codes "truetime_last_break_timestamp_seconds") [];
   by_assumption = count_of status machine (codes "truetime_last_break_info") (codes ",event=\"assumption_broken\"") == 1;
+  by_sleep = count_of status machine (codes "truetime_last_break_info") (codes ",event=\"host_slept\"") == 1;
+  by_guest = count_of status machine (codes "truetime_last_break_info") (codes ",event=\"guest_disrupted\"") == 1;
 }
 
 -- the fused span, of which the evidence has a line

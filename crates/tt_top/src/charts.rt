@@ -267,7 +267,7 @@ fn push_no_fused(text: &mut String, number: u64) -> Result<(), AllocError>
         &[
             Piece::Word("<text x=\"8\" y=\""),
             Piece::Number(row(number) + 34),
-            Piece::Word("\">no evidence yet</text>\n"),
+            Piece::Word("\">no evidence file</text>\n"),
         ],
     )
 }

@@ -96,7 +96,7 @@ pub(crate) fn push_no_scale(text: &mut String, form: &Form) -> Result<(), AllocE
     push_pieces(
         text,
         &[
-            Piece::Word("no evidence yet "),
+            Piece::Word("no evidence file"),
             Piece::Blanks(form.bar() - 10),
             Piece::Word("      offset round trip        age ends\n"),
         ],

@@ -182,14 +182,15 @@ impl Texts<'_> {
         ensures { IfOk result (λ broke. broke ≡ broke_of self.now.status.now self.now.machine) }
     {
         let at = self.count(alloc, "truetime_last_break_timestamp_seconds", "")?;
-        let assumption = self.count(
-            alloc,
-            "truetime_last_break_info",
-            ",event=\"assumption_broken\"",
-        )?;
+        let name = "truetime_last_break_info";
+        let unmet = self.count(alloc, name, ",event=\"assumption_broken\"")?;
+        let slept = self.count(alloc, name, ",event=\"host_slept\"")?;
+        let disrupted = self.count(alloc, name, ",event=\"guest_disrupted\"")?;
         Ok(Broke {
             at,
-            by_assumption: assumption == 1,
+            by_assumption: unmet == 1,
+            by_sleep: slept == 1,
+            by_guest: disrupted == 1,
         })
     }
 

@@ -268,6 +268,10 @@ fn reason(broke: &Broke) -> &'static str
 {
     if broke.by_assumption {
         " ago: assumption_broken"
+    } else if broke.by_sleep {
+        " ago: host_slept"
+    } else if broke.by_guest {
+        " ago: guest_disrupted"
     } else {
         " ago"
     }

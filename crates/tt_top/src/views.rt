@@ -70,8 +70,12 @@ pub struct CommitCounts {
 pub struct Broke {
     /// When it noticed that an assumption was broken, in nanoseconds since 1970; 0 if it did not.
     pub at: u64,
-    /// Whether the status says that this was why.
+    /// Whether its publications did not meet: `assumption_broken`.
     pub by_assumption: bool,
+    /// Whether its host slept: `host_slept`.
+    pub by_sleep: bool,
+    /// Whether its guest was disrupted: `guest_disrupted`.
+    pub by_guest: bool,
 }
 
 /// What a machine shows of itself at one moment.

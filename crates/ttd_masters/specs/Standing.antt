@@ -24,10 +24,11 @@ pub record ShowsTold (told : Told) (status : MasterStatus) : Type 0 where
   pub widest_is : status.widest ≡ told.widest
   pub servers_are : status.servers.items ≡ told.servers.items
 
--- a master that answers sealed polls shows its keys, its answers under each, and what it dropped
-pub record ShowsSealed (source : ℕ) (numbers : List ℕ) (counts : List KeyCount) (dropped : List ℕ) (told : Told) (status : MasterStatus) : Type 0 where
+-- a master that answers sealed polls shows its keys, how often their file was refused, its answers under each, and what it dropped
+pub record ShowsSealed (source : ℕ) (numbers : List ℕ) (refused : ℕ) (counts : List KeyCount) (dropped : List ℕ) (told : Told) (status : MasterStatus) : Type 0 where
   pub source_is : status.source ≡ source
   pub keys_are : status.keys ≡ length numbers
+  pub refused_is : status.keys_refused ≡ refused
   pub sealed_are : status.sealed.items ≡ answers_of counts numbers
   pub unsealed_are : status.unsealed ≡ 0
   pub dropped_are : status.dropped ≡ dropped
@@ -37,6 +38,7 @@ pub record ShowsSealed (source : ℕ) (numbers : List ℕ) (counts : List KeyCou
 pub record ShowsOpen (source answers : ℕ) (told : Told) (status : MasterStatus) : Type 0 where
   pub source_is : status.source ≡ source
   pub keys_are : status.keys ≡ 0
+  pub refused_is : status.keys_refused ≡ 0
   pub sealed_are : status.sealed.items ≡ []
   pub unsealed_are : status.unsealed ≡ answers
   pub dropped_are : status.dropped ≡ 0 ∷ 0 ∷ 0 ∷ []

@@ -6,7 +6,10 @@ use Rattle.tt_upstream.specs.Refusal.{sum_of}
 use Rattle.tt_upstream.specs.declared.plans.Plan.{Plan}
 use Rattle.ttd_words.specs.declared.requests.NtpTime.{NtpTime}
 use Rattle.tt_upstream.specs.declared.exchanges.Exchange.{Exchange}
-use Rattle.tt_upstream.specs.declared.exchanges.Exchange.TheVariants.{Silent, Unasked}
+use Rattle.tt_upstream.specs.declared.exchanges.Exchange.TheVariants.{Refused, Silent, Taken, Unasked}
+use Rattle.tt_status.specs.declared.lines.LogEvent.{LogEvent}
+use Rattle.tt_status.specs.declared.lines.LogEvent.TheVariants.{ServerAnswers, ServerRefused, ServerSilent}
+use Rattle.tt_ntp.specs.Fault.{number_of}
 
 -- the pause between two requests: what was given, or else a millisecond on this host, and 64 seconds elsewhere
 abbrev pub every_of : Option ℕ → Bool → ℕ
@@ -43,3 +46,16 @@ abbrev pub silences_after : Exchange → ℕ → ℕ
 silences_after Silent silences = min (silences + 1) 4294967295
 silences_after Unasked silences = silences
 silences_after _ silences = 0
+
+-- a request came to nothing
+abbrev pub is_failure : Exchange → Bool
+is_failure Taken = false
+is_failure exchange = true
+
+-- what is logged of a request to a server: why it came to nothing, each time; and the first reply after that that was accepted
+abbrev pub exchange_event : Exchange → ℕ → Bool → Option LogEvent
+exchange_event Taken server true = Some (ServerAnswers server)
+exchange_event Taken server false = None
+exchange_event (Refused fault) server had_failed = Some (ServerRefused server (number_of fault))
+exchange_event Silent server had_failed = Some (ServerSilent server)
+exchange_event Unasked server had_failed = Some (ServerRefused server 1829)

@@ -27,6 +27,9 @@ pub enum StartFault {
     /// It has no socket at its address.
     #[error("no socket can be had at {0}: {1}")]
     CannotListen(SocketAddr, Reason),
+    /// It can't listen at the address of its pages.
+    #[error("the address for pages can't be listened at: {1}")]
+    CannotServePages(SocketAddr, Reason),
     /// It has no socket to ask an NTP server by.
     #[error("no socket can be had to ask {0}: {1}")]
     CannotAsk(SocketAddr, Reason),
@@ -48,8 +51,8 @@ pub enum StartFault {
 }
 
 impl StartFault {
-    /// The number of the refusal: 1601 `BadPlan`, 1603 `BadFile`, 1604 `ReadFailed`, 1501 `CannotListen` and `CannotAsk`, the
-    /// number of the inner fault for `Keys` and `NtpKeys`, 1829 `NoRandom`, 1816 `NoThread`, and 1 `Memory`.
+    /// The number of the refusal: 1601 `BadPlan`, 1603 `BadFile`, 1604 `ReadFailed`, 1501 `CannotListen` and `CannotAsk`, 1830
+    /// `CannotServePages`, the number of the inner fault for `Keys` and `NtpKeys`, 1829 `NoRandom`, 1816 `NoThread`, and 1 `Memory`.
     pub fn number(&self) -> u16
         ensures { result ≡ number_of self.now }
     {
@@ -60,6 +63,7 @@ impl StartFault {
             StartFault::CannotListen(_, _) | StartFault::CannotAsk(_, _) => {
                 LinkFault::Failed.number()
             }
+            StartFault::CannotServePages(_, _) => 1830,
             StartFault::Keys(fault) => fault.number(),
             StartFault::NtpKeys(fault) => fault.number(),
             StartFault::NoRandom => 1829,

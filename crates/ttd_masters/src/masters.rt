@@ -15,18 +15,19 @@ use crate::references::{DeviceTime, KnownTime, StatedTime};
 use crate::sealed_masters::{Sealed, answer_sealed};
 use crate::standing::open_status;
 use crate::telling::told_by;
+use std::alloc::{AllocError, Global};
 use std::fs::{File, Files};
 use std::io::{self, Eprint, ErrorKind};
-use std::net::{Net, SocketAddr, UdpSocket};
+use std::net::{Net, SocketAddr, TcpListener, UdpSocket};
 use std::sync::Wait;
 use std::thread;
 use std::time::{Clock as SystemClock, Duration};
 use tt_files::Reason;
-use tt_host::{DeviceClock, ServiceHost};
+use tt_host::{DeviceClock, Host, ServiceHost};
 use tt_keys::KeysFault;
-use tt_master::{Act, Master, SpanMaster};
+use tt_master::{Act, Master, Silence, SpanMaster};
 use tt_poll::MAX_SOURCE;
-use tt_report::{Disk, Reporter, ReporterFault};
+use tt_report::{Addresses, Disk, Journal, MasterPages, Reporter, ReporterFault};
 use tt_seal::Key;
 use tt_span::{Drift, MAX_TIME};
 use tt_status::{LogEvent, LogFormat};
@@ -55,12 +56,21 @@ pub struct MasterPlan<'a> {
     pub keys: Option<&'a str>,
     /// The path of its status file. None: it writes none.
     pub status: Option<&'a str>,
+    /// The address of its pages over HTTP. None: it has none.
+    pub http: Option<SocketAddr>,
+}
+
+impl<'a> MasterPlan<'a> {
+    /// Whether it shows its status somewhere.
+    pub(crate) fn shows_itself(&self) -> bool {
+        self.status.is_some() || self.http.is_some()
+    }
 }
 
 /// Answers polls until the process is ended: by a clock of this computer, or by what NTP servers say. Where acts were given, it
 /// does one act for each poll that comes, in their order, and the last one for all further polls; they are for tests. A failure
-/// of the link or of the clock is logged, and it goes on after a pause. The log and the status are written by threads of their
-/// own, for which no poll waits.
+/// of the link or of the clock is logged, and it goes on after a pause. The log and the status are written, and pages are given,
+/// by threads of their own, for which no poll waits.
 ///
 /// It measures by the monotonic clock of `rt`, which has to be one that nobody slews: `CLOCK_MONOTONIC_RAW`
 /// ([`ByClock`](tt_host::ByClock)).
@@ -69,10 +79,11 @@ pub struct MasterPlan<'a> {
 /// poll, and nothing else. Without one it answers open polls of this host.
 ///
 /// Refuses with 1601 `BadPlan` where the source is above [`MAX_SOURCE`] or the uncertainty is above [`MAX_TIME`]; with 2211
-/// to 2216 or 1 where the file of keys is refused; with 1816 or 1 where a thread can't be started; with what refuses the NTP
+/// to 2216 or 1 where the file of keys is refused; with 1830 `CannotServePages` where the address of its pages can't be listened
+/// at, and standard error says which; with 1816 or 1 where a thread can't be started; with what refuses the NTP
 /// servers ([`servers_of`]); with 1604 `ReadFailed` where the hardware clock can't be opened; and with 1501 `CannotListen` where
 /// the socket can't be opened, unless its address is not up.
-pub fn serve_polls<H: ServiceHost + Disk + AsksServers>(
+pub fn serve_polls<H: ServiceHost + Disk + Journal + AsksServers>(
     rt: &H,
     plan: MasterPlan<'_>,
 ) -> Result<(), StartFault> {
@@ -85,7 +96,7 @@ pub fn serve_polls<H: ServiceHost + Disk + AsksServers>(
 }
 
 /// Answers open polls, until the process is ended.
-fn serve_open<H: ServiceHost + Disk + AsksServers>(
+fn serve_open<H: ServiceHost + Disk + Journal + AsksServers>(
     rt: &H,
     plan: MasterPlan<'_>,
 ) -> Result<(), StartFault> {
@@ -97,7 +108,7 @@ fn serve_open<H: ServiceHost + Disk + AsksServers>(
 }
 
 /// Answers polls that are sealed under one of these keys, the first of this file, until the process is ended.
-fn serve_sealed<H: ServiceHost + Disk + AsksServers>(
+fn serve_sealed<H: ServiceHost + Disk + Journal + AsksServers>(
     rt: &H,
     plan: MasterPlan<'_>,
     file: KeyFile<'_>,
@@ -214,15 +225,69 @@ fn first_keys<H: Files<File = File> + Eprint + AllocGlobal>(
     }
 }
 
-/// The reporter of a master.
-fn reporter_of<H: ServiceHost + Disk>(
+/// The addresses of the servers that a master asks.
+fn addresses_of(alloc: Global, time: &MasterTime<'_>) -> Result<Addresses, AllocError> {
+    let mut texts = Vec::new(alloc);
+    if let MasterTime::Ntp(asked) = time {
+        for address in &asked.servers {
+            texts.push(format!(in alloc; "{address}")?)?;
+        }
+    }
+    Ok(Addresses::new(texts))
+}
+
+/// A fault of the reporter, as one of the master.
+fn fault_of_reporter(fault: ReporterFault) -> StartFault {
+    match fault {
+        ReporterFault::NoThread => StartFault::NoThread,
+        ReporterFault::Memory => StartFault::Memory,
+    }
+}
+
+/// Where pages are given, if there is an address for them. If it can't be listened at, standard error says why.
+fn pages_of<H: Host>(rt: &H, plan: &MasterPlan<'_>) -> Result<Option<MasterPages>, StartFault> {
+    let Some(address) = plan.http else {
+        return Ok(None);
+    };
+    match TcpListener::bind(rt, address) {
+        Ok(listener) => Ok(Some(MasterPages {
+            listener,
+            is_open: !address.ip().is_loopback(),
+        })),
+        Err(error) => {
+            let fault = StartFault::CannotServePages(address, Reason::of(&error));
+            let _ = eprint!(rt; "ttd: {address}: {fault}\n");
+            Err(fault)
+        }
+    }
+}
+
+/// The reporter of a master, which gives pages if there is an address for them.
+fn reporter_of<H: ServiceHost + Disk + Journal>(
     rt: &H,
     plan: &MasterPlan<'_>,
 ) -> Result<Reporter, StartFault> {
-    match Reporter::start(rt, rt.alloc(), plan.log, plan.status, None) {
-        Ok(reporter) => Ok(reporter),
-        Err(ReporterFault::NoThread) => Err(StartFault::NoThread),
-        Err(ReporterFault::Memory) => Err(StartFault::Memory),
+    let pages = pages_of(rt, plan)?;
+    let addresses = addresses_of(rt.alloc(), plan.time)?;
+    let started = Reporter::start(rt, rt.alloc(), plan.log, plan.status, None, addresses);
+    let mut reporter = started.map_err(fault_of_reporter)?;
+    if let Some(pages) = pages {
+        let given = reporter.give_master_pages(rt, rt.alloc(), pages);
+        given.map_err(fault_of_reporter)?;
+    }
+    Ok(reporter)
+}
+
+/// Why the master answers no poll, if it does not and has pages that say it.
+pub(crate) fn look<H: Wait + SystemClock + AsksServers>(
+    rt: &H,
+    reporter: &Reporter,
+    plan: &MasterPlan<'_>,
+    player: &mut Player<'_, H>,
+) -> Option<Silence> {
+    match (plan.http, source_of(plan)) {
+        (Some(_), Ok(source)) => player.look(rt, reporter, source),
+        _ => None,
     }
 }
 
@@ -270,7 +335,8 @@ fn socket_at<H: Wait + SystemClock + Net>(
     unreachable!()
 }
 
-/// Answers open polls of this host, and never ends. If there is a status file, it shows its status about once a second.
+/// Answers open polls of this host, and never ends. If there is a status file or an address for pages, it shows its status about
+/// once a second.
 fn answer_open<H: Wait + SystemClock + AsksServers + AllocGlobal>(
     rt: &H,
     reporter: &Reporter,
@@ -282,10 +348,11 @@ fn answer_open<H: Wait + SystemClock + AsksServers + AllocGlobal>(
     let mut looks = Looks::new(rt);
     for _ in rt.forever() {
         take_turn(rt, reporter, &mut link, player);
-        if plan.status.is_some() && looks.is_due() {
+        if plan.shows_itself() && looks.is_due() {
+            let silence = look(rt, reporter, plan, player);
             if let Ok(told) = told_by(rt, player) {
-                let answers = link.answers();
-                reporter.show_master(rt, open_status(rt.alloc(), plan.source, answers, told));
+                let status = open_status(rt.alloc(), plan.source, link.answers(), told);
+                reporter.show_master(rt, rt.alloc(), status, silence);
             }
         }
     }

@@ -1,7 +1,7 @@
 //! How a master answers polls: honestly, or with acts for tests.
 
 ghost use Rattle.std.specs.Prelude.{◌≡◌, None};
-ghost use Rattle.ttd_masters.specs.Playing.{event_of, is_silent_after, silence_in, widest_after, width_in};
+ghost use Rattle.ttd_masters.specs.Playing.{event_of, failure_event, is_wide_after, silence_after, silence_in, tells, widest_after, width_event, width_in};
 
 use crate::clocks::RealTime;
 use crate::hosts::AsksServers;
@@ -11,6 +11,7 @@ use std::thread;
 use std::time::{Clock as SystemClock, Duration};
 use tt_answers::{Tally, Turn, answer_turn};
 use tt_master::{Act, Master, NoAnswer, Silence, SpanMaster};
+use tt_poll::{Request, encode_request};
 use tt_report::Reporter;
 use tt_rounds::{Link, master_rounds};
 use tt_status::LogEvent;
@@ -40,16 +41,27 @@ fn event_of(silence: Silence) -> LogEvent
     }
 }
 
-/// Whether the master is silent after a turn that found nothing to answer with, or answered. A turn that did neither tells
+/// Why the master is silent after a turn that found nothing to answer with, or answered. A turn that did neither tells
 /// nothing.
-fn is_silent_after(before: bool, silence: Option<Silence>, width: Option<u64>) -> bool
-    ensures { result ≡ is_silent_after before silence width }
+fn silence_after(
+    before: Option<Silence>,
+    silence: Option<Silence>,
+    width: Option<u64>,
+) -> Option<Silence>
+    ensures { result ≡ silence_after before silence width }
 {
     match (silence, width) {
-        (Some(_), _) => true,
-        (None, Some(_)) => false,
+        (Some(silence), _) => Some(silence),
+        (None, Some(_)) => None,
         (None, None) => before,
     }
+}
+
+/// Whether a turn found nothing to answer with, or answered.
+fn tells(silence: Option<Silence>, width: Option<u64>) -> bool
+    ensures { result ≡ tells silence width }
+{
+    silence.is_some() || width.is_some()
 }
 
 /// How wide the answer of a turn is in nanoseconds, if a poll was answered.
@@ -73,6 +85,40 @@ fn widest_after(before: Option<u64>, width: Option<u64>) -> Option<u64>
     }
 }
 
+/// Whether the last answer was wider than the limit, if there is one, in nanoseconds, after a turn with an answer of this width or
+/// with none.
+fn is_wide_after(was_wide: bool, width: Option<u64>, limit: Option<u64>) -> bool
+    ensures { result ≡ is_wide_after was_wide width limit }
+{
+    match (width, limit) {
+        (Some(width), Some(limit)) => limit < width,
+        _ => was_wide,
+    }
+}
+
+/// What is logged of the width of an answer in nanoseconds, if there is one and a limit: that it is wider, each time; and the first
+/// time after that, that it is not. `was_wide` says whether the answer before was.
+fn width_event(was_wide: bool, width: Option<u64>, limit: Option<u64>) -> Option<LogEvent>
+    ensures value { result ≡ width_event was_wide width limit }
+{
+    match (width, limit) {
+        (Some(width), Some(limit)) if limit < width => Some(LogEvent::WidthAbove { width, limit }),
+        (Some(_), Some(_)) if was_wide => Some(LogEvent::WidthInBounds),
+        _ => None,
+    }
+}
+
+/// What is logged of a turn: that it failed with this number, each time; and the first one after that that did not.
+fn failure_event(had_failed: bool, number: Option<u64>) -> Option<LogEvent>
+    ensures value { result ≡ failure_event had_failed number }
+{
+    match number {
+        Some(number) => Some(LogEvent::MasterFailed { number }),
+        None if had_failed => Some(LogEvent::MasterResumed),
+        None => None,
+    }
+}
+
 /// A master that answers what it knows.
 #[derive(Drop)]
 pub(crate) struct Honest<'a, H> {
@@ -80,8 +126,15 @@ pub(crate) struct Honest<'a, H> {
     tally: Tally,
     /// The greatest width of an answer since the last status, in nanoseconds.
     widest: Option<u64>,
-    is_silent: bool,
+    /// Why it answers no poll, if it does not.
+    silence: Option<Silence>,
+    /// Whether a turn told that since the last look.
+    has_told: bool,
     warn_width: Option<u64>,
+    /// Whether the last answer was wider than that.
+    is_wide: bool,
+    /// Whether the last turn failed.
+    has_failed: bool,
 }
 
 impl<'a, H: Wait + SystemClock + AsksServers> Honest<'a, H> {
@@ -91,8 +144,11 @@ impl<'a, H: Wait + SystemClock + AsksServers> Honest<'a, H> {
             master,
             tally: Tally::new(),
             widest: None,
-            is_silent: false,
+            silence: None,
+            has_told: false,
             warn_width,
+            is_wide: false,
+            has_failed: false,
         }
     }
 
@@ -122,8 +178,32 @@ impl<'a, H: Wait + SystemClock + AsksServers> Honest<'a, H> {
         self.tally.count(turn)
     }
 
-    /// Logs what an operator may have to act on: why a turn found nothing to answer with, or how wide its answer was.
-    fn note<R: Wait + SystemClock>(
+    /// Why it answers no poll, if it does not.
+    pub(crate) fn silence(&self) -> Option<Silence>
+        ensures { result ≡ self.now.silence }
+    {
+        self.silence
+    }
+
+    /// Looks what it would answer a poll with, unless a turn told that since the last look: asks itself, as this source.
+    fn look<R: Wait + SystemClock>(&mut self, rt: &R, reporter: &Reporter, source: u8) {
+        let has_told = self.has_told;
+        self.has_told = false;
+        let Ok(request) = Request::new(0, source, 1) else {
+            return;
+        };
+        if has_told {
+            return;
+        }
+        let turn = match self.master.answer(&encode_request(&request)) {
+            Ok((span, _)) => Turn::Answered(span),
+            Err(why) => Turn::Unanswered(why),
+        };
+        self.note_silence(rt, reporter, silence_in(&turn), width_in(&turn))
+    }
+
+    /// Logs why it answers no poll, and that it answers again.
+    fn note_silence<R: Wait + SystemClock>(
         &mut self,
         rt: &R,
         reporter: &Reporter,
@@ -133,23 +213,27 @@ impl<'a, H: Wait + SystemClock + AsksServers> Honest<'a, H> {
         if let Some(silence) = silence {
             reporter.log(rt, event_of(silence))
         }
-        if let Some(width) = width {
-            self.note_answer(rt, reporter, width)
-        }
-        self.is_silent = is_silent_after(self.is_silent, silence, width);
-        self.widest = widest_after(self.widest, width)
-    }
-
-    /// Logs an answer after silence, and one that is wider than the limit.
-    fn note_answer<R: Wait + SystemClock>(&self, rt: &R, reporter: &Reporter, width: u64) {
-        if self.is_silent {
+        if width.is_some() && self.silence.is_some() {
             reporter.log(rt, LogEvent::MasterAnswers)
         }
-        if let Some(limit) = self.warn_width {
-            if width > limit {
-                reporter.log(rt, LogEvent::WidthAbove { width, limit })
-            }
+        self.silence = silence_after(self.silence, silence, width);
+    }
+
+    /// Logs what an operator may have to act on: why a turn found nothing to answer with, or how wide its answer was.
+    fn note<R: Wait + SystemClock>(
+        &mut self,
+        rt: &R,
+        reporter: &Reporter,
+        silence: Option<Silence>,
+        width: Option<u64>,
+    ) {
+        self.note_silence(rt, reporter, silence, width);
+        if let Some(event) = width_event(self.is_wide, width, self.warn_width) {
+            reporter.log(rt, event)
         }
+        self.is_wide = is_wide_after(self.is_wide, width, self.warn_width);
+        self.has_told |= tells(silence, width);
+        self.widest = widest_after(self.widest, width)
     }
 }
 
@@ -159,6 +243,8 @@ pub(crate) struct Acting<'a, H> {
     master: Master<RealTime<'a, H>>,
     acts: &'a [Act],
     played: usize,
+    /// Whether the last turn failed.
+    has_failed: bool,
 }
 
 impl<'a, H: Wait + SystemClock + AsksServers> Acting<'a, H> {
@@ -168,6 +254,7 @@ impl<'a, H: Wait + SystemClock + AsksServers> Acting<'a, H> {
             master,
             acts,
             played: 0,
+            has_failed: false,
         }
     }
 }
@@ -179,6 +266,19 @@ pub(crate) enum Player<'a, H> {
     Honest(Honest<'a, H>),
     /// With acts.
     Acting(Acting<'a, H>),
+}
+
+impl<'a, H: Wait + SystemClock + AsksServers> Player<'a, H> {
+    /// Why it answers no poll, if it does not: it looks itself where nobody asked it for a second. One that plays acts answers.
+    pub(crate) fn look(&mut self, rt: &H, reporter: &Reporter, source: u8) -> Option<Silence> {
+        match self {
+            Player::Honest(honest) => {
+                honest.look(rt, reporter, source);
+                honest.silence()
+            }
+            Player::Acting(_) => None,
+        }
+    }
 }
 
 /// Takes one turn: answers a poll that comes.
@@ -206,9 +306,13 @@ fn answer<H: Wait + SystemClock + AsksServers, L: Link>(
             let silence = silence_in(&turn);
             let width = width_in(&turn);
             honest.count(turn);
-            honest.note(rt, reporter, silence, width)
+            honest.note(rt, reporter, silence, width);
+            end_turn(rt, reporter, &mut honest.has_failed, None)
         }
-        Err(fault) => fail(rt, reporter, u64::from(fault.number())),
+        Err(fault) => {
+            let number = Some(u64::from(fault.number()));
+            end_turn(rt, reporter, &mut honest.has_failed, number)
+        }
     }
 }
 
@@ -223,15 +327,30 @@ fn act<H: Wait + SystemClock + AsksServers, L: Link>(
         return;
     };
     let left = &acting.acts[acting.played.min(last)..];
-    match master_rounds(link, &mut acting.master, left, 1) {
-        Ok(0) => {}
-        Ok(_) => acting.played = acting.played.saturating_add(1),
-        Err(fault) => fail(rt, reporter, u64::from(fault.number())),
-    }
+    let number = match master_rounds(link, &mut acting.master, left, 1) {
+        Ok(played) => {
+            if played > 0 {
+                acting.played = acting.played.saturating_add(1);
+            }
+            None
+        }
+        Err(fault) => Some(u64::from(fault.number())),
+    };
+    end_turn(rt, reporter, &mut acting.has_failed, number)
 }
 
-/// Logs a failure, and waits before it goes on.
-fn fail<H: Wait + SystemClock + AsksServers>(rt: &H, reporter: &Reporter, number: u64) {
-    reporter.log(rt, LogEvent::MasterFailed { number });
-    thread::sleep(rt, Duration::from_millis(PAUSE))
+/// Logs that a turn failed with this number, or that turns do not fail any more. After a failure it waits before it goes on.
+fn end_turn<H: Wait + SystemClock + AsksServers>(
+    rt: &H,
+    reporter: &Reporter,
+    has_failed: &mut bool,
+    number: Option<u64>,
+) {
+    if let Some(event) = failure_event(*has_failed, number) {
+        reporter.log(rt, event)
+    }
+    *has_failed = number.is_some();
+    if *has_failed {
+        thread::sleep(rt, Duration::from_millis(PAUSE))
+    }
 }

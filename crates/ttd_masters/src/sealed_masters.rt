@@ -1,9 +1,11 @@
 //! A master that answers sealed polls.
 
+ghost use Rattle.std.specs.Prelude.{◌≡◌, ◌+◌, ◌-◌, ◌^◌, min};
+
 use crate::faults::StartFault;
 use crate::key_files::{KeyFile, line_in};
 use crate::links::AnsweringLink;
-use crate::masters::MasterPlan;
+use crate::masters::{MasterPlan, look};
 use crate::pauses::Looks;
 use crate::players::{Player, take_turn};
 use crate::standing::{Told, numbers_of, sealed_status};
@@ -13,6 +15,7 @@ use std::sync::Wait;
 use std::time::Clock as SystemClock;
 use tt_host::Host;
 use tt_keys::KeysFault;
+use tt_master::Silence;
 use tt_report::Reporter;
 use tt_rounds::SealedAnswers;
 use tt_seal::Key;
@@ -26,6 +29,8 @@ pub(crate) struct Sealed<'a> {
     numbers: Vec<u32>,
     /// How many packets had not opened at the last look.
     unopened: u64,
+    /// How often the file of keys was refused.
+    refused: u64,
 }
 
 impl<'a> Sealed<'a> {
@@ -43,6 +48,7 @@ impl<'a> Sealed<'a> {
             file,
             numbers,
             unopened: 0,
+            refused: 0,
         })
     }
 
@@ -52,7 +58,7 @@ impl<'a> Sealed<'a> {
         let event = match self.file.look(rt, rt.alloc()) {
             Ok(None) => return,
             Ok(Some(keys)) => self.take(rt, keys),
-            Err(fault) => refused(fault),
+            Err(fault) => self.refuse(fault),
         };
         reporter.log(rt, event)
     }
@@ -67,10 +73,19 @@ impl<'a> Sealed<'a> {
         }
     }
 
-    /// Shows its status, if there is memory for it.
-    fn show<H: Wait + AllocGlobal>(&self, rt: &H, reporter: &Reporter, source: u64, told: Told) {
-        if let Ok(status) = sealed_status(rt.alloc(), source, &self.numbers, &self.link, told) {
-            reporter.show_master(rt, status)
+    /// Shows its status, and why it answers no poll, if it does not; if there is memory for that.
+    fn show<H: Wait + SystemClock + AllocGlobal>(
+        &self,
+        rt: &H,
+        reporter: &Reporter,
+        source: u64,
+        told: Told,
+        silence: Option<Silence>,
+    ) {
+        let alloc = rt.alloc();
+        let (numbers, refused) = (&self.numbers, self.refused);
+        if let Ok(status) = sealed_status(alloc, source, numbers, refused, &self.link, told) {
+            reporter.show_master(rt, alloc, status, silence)
         }
     }
 
@@ -80,14 +95,22 @@ impl<'a> Sealed<'a> {
         let count = keys.len() as u64;
         let Ok(numbers) = numbers_of(alloc, &keys) else {
             self.file.forget();
-            return refused(KeysFault::Memory);
+            return self.refuse(KeysFault::Memory);
         };
         if self.link.set_keys(alloc, keys).is_err() {
             self.file.forget();
-            return refused(KeysFault::Memory);
+            return self.refuse(KeysFault::Memory);
         }
         self.numbers = numbers;
         LogEvent::KeysRead { keys: count }
+    }
+
+    /// Counts that the file of keys was refused. Answers what is logged.
+    fn refuse(&mut self, fault: KeysFault) -> LogEvent
+        ensures counted { self.new.refused ≡ min (self.old.refused + 1) (2 ^ 64 - 1) }
+    {
+        self.refused = self.refused.saturating_add(1);
+        refused(fault)
     }
 }
 
@@ -100,7 +123,7 @@ fn refused(fault: KeysFault) -> LogEvent {
 }
 
 /// Answers sealed polls, and never ends. About once a second it looks at its file of keys, logs that packets did not open
-/// and, if there is a status file, shows its status.
+/// and, if there is a status file or an address for pages, shows its status.
 pub(crate) fn answer_sealed<H: Host + Wait + RandomSource>(
     rt: &H,
     reporter: &Reporter,
@@ -115,9 +138,10 @@ pub(crate) fn answer_sealed<H: Host + Wait + RandomSource>(
         if looks.is_due() {
             sealed.look(rt, reporter);
             sealed.tell_unopened(rt, reporter);
-            if plan.status.is_some() {
+            if plan.shows_itself() {
+                let silence = look(rt, reporter, plan, player);
                 if let Ok(told) = told_by(rt, player) {
-                    sealed.show(rt, reporter, plan.source, told);
+                    sealed.show(rt, reporter, plan.source, told, silence);
                 }
             }
         }

@@ -65,15 +65,16 @@ fn answers_of<L: Link>(
 }
 
 /// The status of the master that is this source, which answers sealed polls over this link. Its keys have these numbers,
-/// and of its turns and servers it tells this.
+/// its file of keys was `refused` so often, and of its turns and servers it tells this.
 pub(crate) fn sealed_status<L: Link>(
     alloc: Global,
     source: u64,
     numbers: &[u32],
+    refused: u64,
     link: &SealedAnswers<L>,
     told: Told,
 ) -> Result<MasterStatus, AllocError>
-    ensures { IfOk result (ShowsSealed source numbers.now link.now.counts.items link.now.dropped told) }
+    ensures { IfOk result (ShowsSealed source numbers.now refused link.now.counts.items link.now.dropped told) }
 {
     let sealed = answers_of(alloc, numbers, link)?;
     let dropped = link.dropped();
@@ -81,6 +82,7 @@ pub(crate) fn sealed_status<L: Link>(
     Ok(MasterStatus {
         source,
         keys: numbers.len() as u64,
+        keys_refused: refused,
         sealed,
         unsealed: 0,
         dropped,
@@ -100,6 +102,7 @@ pub(crate) fn open_status(alloc: Global, source: u64, answers: u64, told: Told) 
     MasterStatus {
         source,
         keys: 0,
+        keys_refused: 0,
         sealed: Vec::new(alloc),
         unsealed: answers,
         dropped: [0; 3],

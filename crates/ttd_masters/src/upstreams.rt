@@ -1,7 +1,7 @@
 //! NTP servers above a master: for each a socket by which it is asked, and what is known of it.
 
 ghost use Rattle.std.specs.Prelude.{◌≡◌};
-ghost use Rattle.ttd_masters.specs.Upstreams.{every_of as pause_between, is_passing_receipt, put_off_by, silences_after};
+ghost use Rattle.ttd_masters.specs.Upstreams.{exchange_event, every_of as pause_between, is_failure, is_passing_receipt, put_off_by, silences_after};
 
 use crate::hosts::AsksServers;
 use std::alloc::{AllocError, Global};
@@ -103,6 +103,38 @@ fn silences_with(exchange: Exchange, silences: u32) -> u32
     }
 }
 
+/// Whether a request came to nothing.
+fn is_failure(exchange: Exchange) -> bool
+    ensures { result ≡ is_failure exchange }
+{
+    !matches!(exchange, Exchange::Taken)
+}
+
+/// What is logged of a request to a server: a reply that was refused, that none came, and that there were no random numbers; and
+/// the first reply that was accepted, if the request before came to nothing.
+fn exchange_event(exchange: Exchange, server: u64, had_failed: bool) -> Option<LogEvent>
+    ensures value { result ≡ exchange_event exchange server had_failed }
+{
+    match exchange {
+        Exchange::Taken => {
+            if had_failed {
+                Some(LogEvent::ServerAnswers { server })
+            } else {
+                None
+            }
+        }
+        Exchange::Refused(fault) => Some(LogEvent::ServerRefused {
+            server,
+            number: u64::from(fault.number()),
+        }),
+        Exchange::Silent => Some(LogEvent::ServerSilent { server }),
+        Exchange::Unasked => Some(LogEvent::ServerRefused {
+            server,
+            number: NO_RANDOM,
+        }),
+    }
+}
+
 /// The socket by which one request is sent, and the source of its nonce.
 #[derive(Drop)]
 struct UdpLine<'a, H> {
@@ -167,6 +199,8 @@ pub(crate) struct Upstream {
     server: SharedServer,
     /// How many requests in a row had no reply.
     silences: u32,
+    /// Whether the last request came to nothing.
+    has_failed: bool,
     /// The clock reading before which it is not asked, in nanoseconds.
     not_before: u64,
     /// Sees that the host slept within an exchange.
@@ -196,6 +230,7 @@ impl Upstream {
             key,
             server,
             silences: 0,
+            has_failed: false,
             not_before: 0,
             sleep: SleepWatch::new(),
         })
@@ -206,25 +241,15 @@ impl Upstream {
         Arc::try_clone(&self.server)
     }
 
-    /// Asks the server once, and waits for its reply. Logs a reply that was refused, that none came, and that there were no
-    /// random numbers.
+    /// Asks the server once, and waits for its reply. Logs what is to be logged of that.
     pub(crate) fn ask<H: Wait + SystemClock + AsksServers>(&mut self, rt: &H, reporter: &Reporter) {
         let exchange = self.exchange(rt, reporter);
         self.silences = silences_with(exchange, self.silences);
         self.not_before = put_off(exchange, self.is_near, now_of(rt));
-        let server = self.place;
-        match exchange {
-            Exchange::Taken => {}
-            Exchange::Refused(fault) => {
-                let number = u64::from(fault.number());
-                reporter.log(rt, LogEvent::ServerRefused { server, number })
-            }
-            Exchange::Silent => reporter.log(rt, LogEvent::ServerSilent { server }),
-            Exchange::Unasked => {
-                let number = NO_RANDOM;
-                reporter.log(rt, LogEvent::ServerRefused { server, number })
-            }
+        if let Some(event) = exchange_event(exchange, self.place, self.has_failed) {
+            reporter.log(rt, event)
         }
+        self.has_failed = is_failure(exchange);
     }
 
     /// Asks the server if a request is due. A server on this host is asked so, before a poll is answered.

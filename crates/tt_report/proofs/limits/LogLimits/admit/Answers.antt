@@ -5,4 +5,5 @@ use Rattle.tt_report.specs.Left.{of_kind}
 
 pub returns-clause-stands : goal.returns-clause-stands
 returns-clause-stands c past stands =
-    kept-kinds past (kind_of c.args.event) c.kind_of.result _ c.args.self.now.kinds _ _ c.kind_of.ensures.value stands (c.admit.ensures.stands (of_kind (kind_of c.args.event) past))
+    let kind = kind_of c.args.line.event in
+    kept-kinds past kind c.kind_of.result _ c.args.self.now.kinds _ _ c.kind_of.ensures.value stands (c.admit.ensures.stands (of_kind kind past))

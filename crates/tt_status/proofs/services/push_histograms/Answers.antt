@@ -3,7 +3,7 @@ use Rattle.std.specs.List.{flat_map}
 use Rattle.tt_status.specs.Metric.{metric_text}
 use Rattle.tt_status.specs.Status.{commit_waits_metric, round_trips_metric, reading_widths_metric}
 use Rattle.tt_status.proofs.Appending.{then_on_ok, alone_on_ok}
-use Rattle.tt_status.proofs.statuses.push_histograms.Goals as goal
+use Rattle.tt_status.proofs.services.push_histograms.Goals as goal
 
 pub returns : goal.returns
 returns c =
