@@ -1,7 +1,7 @@
 -- A worker between two turns: its post, and the sessions that are open.
-use Rattle.std.specs.Prelude.{◌≡◌, ◌≤◌, ◌+◌, ◌^◌, ℕ, Bool, false, nat_lt, List, [], length, Option, Some, None, IsSome}
+use Rattle.std.specs.Prelude.{◌≡◌, ◌≤◌, ◌+◌, ◌^◌, ℕ, List, [], ◌++◌, Option, Some, None, IsSome}
+use Rattle.std.specs.Io.KnownBytes.{Appends, Consumes, prepend_known}
 use Rattle.tt_publish.specs.Known.{WatchState}
-use Rattle.tt_stamp.specs.History.{waiting_of}
 use Rattle.tt_stamp.specs.Stamping.{SeatState}
 use Rattle.tt_session.specs.declared.calls.Call.{Call}
 use Rattle.tt_clock.specs.Clock.{ClockState, MachineGives}
@@ -9,7 +9,7 @@ use Rattle.tt_connections.specs.Client.{ClientSays}
 use Rattle.tt_connections.specs.Station.{PostState}
 use Rattle.tt_connections.specs.Turns.{PostGoesOn}
 use Rattle.tt_connections.specs.Sessions.{WorkerSession, AreServedBetween}
-use Rattle.tt_connections.specs.Visits.{VisitState, StandsAt, TurnsOn, BreaksTurn}
+use Rattle.tt_connections.specs.Visits.{VisitState, StandsAt, StandsOn, new_visit}
 use Rattle.tt_workers.specs.Happening.{WorkerEvent, AreAllByTurns, calls_at, LeadFrom, sessions_of}
 use Rattle.slab.specs.Slab.{Slab}
 
@@ -29,29 +29,99 @@ MachineSession = WorkerSession MachineGives clock_failures ClientSays max_waits
 abbrev pub MachineEvent : Type 0
 MachineEvent = WorkerEvent MachineGives clock_failures ClientSays max_waits
 
--- a worker: the post that it began with, its post, and what is kept of each session that is open
+-- a session that is open, with its connection: what is kept of it; the bytes that it holds, and those that its connection still gives; what was written to its connection; and what the last two were when it began. What its connection gives and what was written is there if the connection keeps it
+pub record SessionState : Type 0 where
+  pub visit : VisitState
+  pub held : List ℕ
+  pub left : Option (List ℕ)
+  pub written : Option (List ℕ)
+  pub first_left : Option (List ℕ)
+  pub first_written : Option (List ℕ)
+
+-- the bytes that a session has not heard: those that it holds, and behind them those that its connection still gives
+abbrev pub unheard : SessionState → Option (List ℕ)
+unheard session = prepend_known session.held session.left
+
+-- a session that begins: it has heard nothing of what its connection gives, and nothing was written there
+pub record IsNew (session : SessionState) : Type 0 where
+  pub visit : session.visit ≡ new_visit
+  pub gave : Consumes session.first_left (unheard session) []
+  pub wrote : Appends session.first_written session.written []
+
+-- a session that was lent the post: it heard these bytes, which its connection gave, in order and once; and these are its replies, all of which were written to its connection, in order and once
+pub record Serves (old : SessionState) (post : PostState ClockState) (new : SessionState) (post' : PostState ClockState) : Type 0 where
+  pub heard : List ℕ
+  pub text : List ℕ
+  pub stands : StandsOn MachineGives clock_failures ClientSays max_waits tt heard text old.visit post new.visit post'
+  pub goes : PostGoesOn post post'
+  pub gave : Consumes (unheard old) (unheard new) heard
+  pub wrote : Appends old.written new.written text
+  pub first_left : new.first_left ≡ old.first_left
+  pub first_written : new.first_written ≡ old.first_written
+
+-- a session that was lent the post for the last time: what it heard is a front of what its connection gave, and of its replies a front was written
+pub record ServesLast (old : SessionState) (post : PostState ClockState) (new : SessionState) (post' : PostState ClockState) : Type 0 where
+  pub heard : List ℕ
+  pub rest : Option (List ℕ)
+  pub said : List ℕ
+  pub unsaid : List ℕ
+  pub stands : StandsOn MachineGives clock_failures ClientSays max_waits tt heard (said ++ unsaid) old.visit post new.visit post'
+  pub goes : PostGoesOn post post'
+  pub gave : Consumes (unheard old) rest heard
+  pub wrote : Appends old.written new.written said
+  pub first_left : new.first_left ≡ old.first_left
+  pub first_written : new.first_written ≡ old.first_written
+
+-- a session heard a front of these bytes, behind which these are left; and its replies were written, all of them
+pub record Hears (bytes rest : List ℕ) (old : SessionState) (post : PostState ClockState) (new : SessionState) (post' : PostState ClockState) : Type 0 where
+  pub heard : List ℕ
+  pub text : List ℕ
+  pub bytes_are : bytes ≡ heard ++ rest
+  pub stands : StandsOn MachineGives clock_failures ClientSays max_waits tt heard text old.visit post new.visit post'
+  pub goes : PostGoesOn post post'
+  pub wrote : Appends old.written new.written text
+  pub left : new.left ≡ old.left
+  pub first_left : new.first_left ≡ old.first_left
+  pub first_written : new.first_written ≡ old.first_written
+
+-- a session heard a front of these bytes, and is over; of its replies a front was written
+pub record HearsLast (bytes : List ℕ) (old : SessionState) (post : PostState ClockState) (new : SessionState) (post' : PostState ClockState) : Type 0 where
+  pub heard : List ℕ
+  pub rest : List ℕ
+  pub said : List ℕ
+  pub unsaid : List ℕ
+  pub bytes_are : bytes ≡ heard ++ rest
+  pub stands : StandsOn MachineGives clock_failures ClientSays max_waits tt heard (said ++ unsaid) old.visit post new.visit post'
+  pub goes : PostGoesOn post post'
+  pub wrote : Appends old.written new.written said
+  pub first_left : new.first_left ≡ old.first_left
+  pub first_written : new.first_written ≡ old.first_written
+
+-- a worker: the post that it began with, its post, and each session that is open
 pub record WorkerState : Type 0 where
   pub first : PostState ClockState
   pub post : PostState ClockState
-  pub visits : Slab VisitState
+  pub sessions : Slab SessionState
 
--- a session with these calls goes on: it began at a post that the first one had become
-pub record GoesOn (first post : PostState ClockState) (calls : List Call) (visit : VisitState) : Type 0 where
+-- a session with these calls goes on: it began at a post that the first one had become. It stands by the bytes that its connection gave since, without those that it has not heard, and by the replies that were written there since
+pub record GoesOn (first post : PostState ClockState) (calls : List Call) (session : SessionState) : Type 0 where
   pub client : Unit {0}
   pub begun : PostState ClockState
   pub begins : PostGoesOn first begun
   pub bytes : List ℕ
   pub text : List ℕ
-  pub stands : StandsAt MachineGives clock_failures ClientSays max_waits begun client bytes text visit post
+  pub stands : StandsAt MachineGives clock_failures ClientSays max_waits begun client bytes text session.visit post
   pub calls_are : stands.stood.session.calls ≡ calls
+  pub gave : Consumes session.first_left (unheard session) bytes
+  pub wrote : Appends session.first_written session.written text
 
 -- where a session is open, it goes on with the calls at its place; at any other place there are none
-abbrev pub IsOpenWith : PostState ClockState → PostState ClockState → List Call → Option VisitState → Type 0
-IsOpenWith first post calls (Some visit) = GoesOn first post calls visit
+abbrev pub IsOpenWith : PostState ClockState → PostState ClockState → List Call → Option SessionState → Type 0
+IsOpenWith first post calls (Some session) = GoesOn first post calls session
 IsOpenWith first post calls None = calls ≡ []
 
 -- from the first post to this one there were turns alone, of sessions that have ended since or are open, each at its place
-pub record HasWorked (first post : PostState ClockState) (open_at : ℕ → Option VisitState) : Type 0 where
+pub record HasWorked (first post : PostState ClockState) (open_at : ℕ → Option SessionState) : Type 0 where
   pub events : List MachineEvent
   pub lead : LeadFrom first events post
   pub goes : PostGoesOn first post
@@ -64,7 +134,7 @@ post_or other (Some post) = post
 post_or other None = other
 
 -- a worker between two turns has its post, and has worked
-pub record IsAt (first : PostState ClockState) (post : Option (PostState ClockState)) (open_at : ℕ → Option VisitState) : Type 0 where
+pub record IsAt (first : PostState ClockState) (post : Option (PostState ClockState)) (open_at : ℕ → Option SessionState) : Type 0 where
   pub is_there : IsSome post
   pub worked : HasWorked first (post_or first post) open_at
 
@@ -78,30 +148,20 @@ pub record WorkerServed (first : PostState ClockState) (watch : WatchState) (sea
   pub watch_is : watch ≡ last.watch
   pub seat_is : seat ≡ last.seat
 
--- a turn of the session at a place, over these bytes, whose replies were all written: there was a session before, and it goes on
-abbrev pub Turned : Option (List ℕ) → Option (List ℕ) → Unit {0} → List ℕ → Option VisitState → PostState ClockState → Option VisitState → PostState ClockState → Type 0
-Turned taken taken' client bytes (Some visit) post (Some visit') post' = TurnsOn MachineGives clock_failures ClientSays max_waits taken taken' client bytes visit post visit' post'
-Turned taken taken' client bytes _ post _ post' = ⊥
+-- the session at a place was lent the post, and goes on; where there is none, the post stays
+abbrev pub Served : Option SessionState → PostState ClockState → Option SessionState → PostState ClockState → Type 0
+Served (Some old) post (Some new) post' = Serves old post new post'
+Served None post None post' = post' ≡ post
+Served _ post _ post' = ⊥
 
--- a turn of the session at a place, over these bytes, with which it ended, since its writer failed: there was a session before
-abbrev pub Broken : {W : Type 0} → (W → Option (List ℕ)) → (W → Bool) → W → W → Unit {0} → List ℕ → Option VisitState → PostState ClockState → PostState ClockState → Type 0
-Broken shows flushed old new client bytes (Some visit) post post' = (visit' : VisitState) × BreaksTurn MachineGives clock_failures ClientSays max_waits shows flushed old new client bytes visit post visit' post'
-Broken shows flushed old new client bytes None post post' = ⊥
+-- the session at a place was lent the post for the last time: there was one
+abbrev pub ServedLast : Option SessionState → PostState ClockState → PostState ClockState → Type 0
+ServedLast (Some old) post post' = (new : SessionState) × ServesLast old post new post'
+ServedLast None post post' = ⊥
 
--- the lines of so many further bytes can't be counted in this session; where there is none, none can
-abbrev pub IsSpent : ℕ → Option VisitState → Type 0
-IsSpent count (Some visit) = 2 ^ 64 ≤ visit.talk.served.lines + count
-IsSpent count None = Unit {0}
-
--- whether a commit of the session at a place is pending
-abbrev pub is_pending_in : Option VisitState → Bool
-is_pending_in (Some visit) = nat_lt 0 (length (waiting_of visit.book))
-is_pending_in None = false
-
--- how many lines of the session at a place were answered, and how many of them were refused
-abbrev pub counts_in : Option VisitState → ℕ × ℕ
-counts_in (Some visit) = (visit.talk.served.lines, visit.talk.served.refused)
-counts_in None = (0, 0)
+-- the lines of so many further bytes can't be counted in this session
+abbrev pub IsSpent : ℕ → VisitState → Type 0
+IsSpent count visit = 2 ^ 64 ≤ visit.talk.served.lines + count
 
 -- the most sessions of one worker
 abbrev pub max_sessions : ℕ

@@ -1,16 +1,14 @@
-//! The connections of a worker: what comes of each, and what it takes.
+//! What a worker keeps of a connection beside its session, what comes of it, and what of that one turn hears.
 
-ghost use Rattle.std.specs.Prelude.{◌≡◌, ◌<◌, ◌≤◌, length};
-ghost use Rattle.tt_stream.specs.Counts.{HasFailed};
+ghost use Rattle.std.specs.Prelude.{◌≡◌, ◌<◌, ◌≤◌, length, take, IfOk};
+ghost use Rattle.std.specs.Io.KnownBytes.{Consumes};
 
 use memchr::memchr;
 use std::alloc::Global;
-use std::io::{ErrorKind, Read, Write};
-use std::mem;
+use std::io::{self, ErrorKind, Read, Write};
 use std::net::{Shutdown, TcpStream};
-use std::sync::atomic::{AtomicBool, Ordering};
+use std::rc::Rc;
 use tt_connections::{Attendance, FirstLine, is_over};
-use tt_stream::{ByteWriter, DeviceFault};
 
 /// The longest time of a session, in nanoseconds: a day.
 const DAY: u64 = 86_400_000_000_000;
@@ -19,73 +17,109 @@ const DAY: u64 = 86_400_000_000_000;
 /// waits then.
 pub(crate) const SOON: u64 = 1_000_000;
 
-/// How many reads are made at most of what a client sent behind a first line that ends its session.
-const LAST_READS: u32 = 16;
+/// A session is over.
+#[derive(Clone, Copy, Drop)]
+pub(crate) struct Over;
 
-/// What one read of a connection gave.
+/// How many lines were answered, and how many of them were refused.
 #[derive(Clone, Copy)]
-pub(crate) enum Came {
-    /// So many bytes.
-    Bytes(usize),
-    /// Nothing in time.
-    Nothing,
-    /// The client sends no more, or the connection failed.
-    End,
+pub(crate) struct LineCounts {
+    pub(crate) lines: u64,
+    pub(crate) refused: u64,
 }
 
-/// What a worker keeps of a connection beside its session.
+/// One end of a socket, by which it gives bytes or takes some.
+#[derive(Drop)]
+pub struct SharedStream {
+    pub(crate) socket: Rc<TcpStream>,
+}
+
+impl SharedStream {
+    /// An end of this socket. None if it is out of memory.
+    pub(crate) fn new(alloc: Global, socket: TcpStream) -> Option<SharedStream> {
+        let socket = Rc::new(alloc, socket).ok()?;
+        Some(SharedStream { socket })
+    }
+
+    /// Another end of the same socket. None if there are 2^64 - 1.
+    pub(crate) fn share(&self) -> Option<SharedStream> {
+        let socket = self.socket.clone().ok()?;
+        Some(SharedStream { socket })
+    }
+}
+
+impl Read for SharedStream {
+    fn read(&mut self, buffer: &mut [u8]) -> io::Result<usize> {
+        let mut socket = &*self.socket;
+        socket.read(buffer)
+    }
+}
+
+impl Write for SharedStream {
+    fn write(&mut self, bytes: &[u8]) -> io::Result<usize> {
+        let mut socket = &*self.socket;
+        socket.write(bytes)
+    }
+
+    fn flush(&mut self) -> io::Result<()> {
+        Ok(())
+    }
+}
+
+/// Reads what has come of this input, and answers how many bytes: 0 if nothing came in time. The session is over if the
+/// input has ended, or failed.
+pub(crate) fn read_from<I: Read>(input: &mut I, buffer: &mut [u8]) -> Result<usize, Over>
+    ensures count { IfOk result (λ n. n ≤ length buffer.new) }
+    ensures gave { IfOk result (λ n. Consumes (I.remaining input.old) (I.remaining input.new) (take n buffer.new)) }
+{
+    match input.read(buffer) {
+        Ok(0) => Err(Over),
+        Ok(count) => Ok(count),
+        Err(error) => match error.kind() {
+            ErrorKind::WouldBlock | ErrorKind::TimedOut | ErrorKind::Interrupted => Ok(0),
+            _ => Err(Over),
+        },
+    }
+}
+
+/// What a worker keeps of a connection beside its session and its bytes.
 #[derive(Drop)]
 pub(crate) struct Connection {
-    pub(crate) stream: TcpStream,
+    pub(crate) socket: Rc<TcpStream>,
     pub(crate) attendance: Attendance,
     /// Whether its reads and writes wait, each for its time at most.
     waits: bool,
     /// The clock reading at which the session began, in nanoseconds.
     began: u64,
     /// The clock reading at which the time of the current line began, in nanoseconds.
-    since: u64,
-    /// Bytes that came and wait, since a pending commit of the session has to wait first.
-    pub(crate) held: Vec<u8>,
-    /// The clock reading at which the held bytes are heard, in nanoseconds.
+    pub(crate) since: u64,
+    /// The clock reading at which bytes that are held are heard, in nanoseconds.
     pub(crate) due: u64,
-    /// Replies that the connection has not taken.
-    pub(crate) unsent: Vec<u8>,
     /// What is known of the first line of the session, until it has ended.
     first: Option<FirstLine>,
     /// Whether the last byte that was heard is within a line.
-    pub(crate) is_within: bool,
-    /// How many lines and refusals of the session are counted.
-    pub(crate) lines: u64,
-    pub(crate) refused: u64,
+    is_within: bool,
+    /// What of the session is counted.
+    counted: LineCounts,
 }
 
 impl Connection {
-    /// A connection whose session begins when the clock shows `now`.
-    pub(crate) fn new(alloc: Global, stream: TcpStream, now: u64) -> Connection {
+    /// The connection of this socket, whose session begins when the clock shows `now`.
+    pub(crate) fn new(socket: Rc<TcpStream>, now: u64) -> Connection {
         Connection {
-            stream,
+            socket,
             attendance: Attendance::new(),
             waits: true,
             began: now,
             since: now,
-            held: Vec::new(alloc),
             due: 0,
-            unsent: Vec::new(alloc),
             first: Some(FirstLine::new()),
             is_within: false,
-            lines: 0,
-            refused: 0,
+            counted: LineCounts {
+                lines: 0,
+                refused: 0,
+            },
         }
-    }
-
-    /// The clock reading at which the time of the current line began, in nanoseconds.
-    pub(crate) fn since(&self) -> u64 {
-        self.since
-    }
-
-    /// The time of a line begins at this clock reading, which may be an old one: never before that of the line before it.
-    pub(crate) fn begin_line(&mut self, now: u64) {
-        self.since = self.since.max(now);
     }
 
     /// Whether the client has had its time when the clock shows `now`: a line took longer than `idle`, or the session
@@ -94,27 +128,26 @@ impl Connection {
         is_over(self.since, idle, now) || is_over(self.began, DAY, now)
     }
 
+    /// Whether bytes that are held have waited when the clock shows `now`, or can't be read.
+    pub(crate) fn has_waited(&self, now: Option<u64>) -> bool {
+        match now {
+            Some(now) => self.due <= now.saturating_add(SOON),
+            None => true,
+        }
+    }
+
     /// Has its reads and writes wait from now on, or not. A session that is alone may wait for its bytes. Of several none may: what
     /// makes a socket ready need not be bytes. It stays as it was where the system refuses.
     pub(crate) fn set_waits(&mut self, waits: bool) {
-        if self.waits != waits && self.stream.set_nonblocking(!waits).is_ok() {
+        if self.waits != waits && self.socket.set_nonblocking(!waits).is_ok() {
             self.waits = waits;
         }
     }
 
-    /// Reads what has come. If nothing has, and its reads wait, it waits a fifth of a second for it.
-    pub(crate) fn read(&self, buffer: &mut [u8]) -> Came {
-        let mut device = &self.stream;
-        match device.read(buffer) {
-            Ok(0) => Came::End,
-            Ok(count) => Came::Bytes(count),
-            Err(error) => match error.kind() {
-                ErrorKind::WouldBlock | ErrorKind::TimedOut | ErrorKind::Interrupted => {
-                    Came::Nothing
-                }
-                _ => Came::End,
-            },
-        }
+    /// Says that nothing more is sent, and that reads do not wait. Answers whether the system took it.
+    pub(crate) fn shut(&mut self) -> bool {
+        self.set_waits(false);
+        self.socket.shutdown(Shutdown::Write).is_ok()
     }
 
     /// How many of these bytes, which have just come, are heard before the session ends, since its first line is that of an
@@ -140,143 +173,41 @@ impl Connection {
         }
     }
 
-    /// Says that nothing more is sent, and takes what has come so that the last reply is not lost with the connection.
-    pub(crate) fn shut(&mut self, buffer: &mut [u8]) {
-        self.set_waits(false);
-        if self.stream.shutdown(Shutdown::Write).is_err() {
+    /// The time of a line begins anew at this clock reading, which may be an old one, if a line ended in these bytes, which
+    /// have just come: never before that of the line before it.
+    pub(crate) fn note_line(&mut self, bytes: &[u8], now: u64) {
+        if bytes.last() != Some(&b'\n') && memchr(b'\n', bytes).is_none() {
             return;
         }
-        for _ in 0..LAST_READS {
-            match self.read(buffer) {
-                Came::Bytes(_) => {}
-                Came::Nothing | Came::End => return,
-            }
-        }
+        self.since = self.since.max(now);
     }
 
-    /// Holds these bytes, behind those that are held, until the clock shows `due`. Answers whether there was memory.
-    pub(crate) fn hold(&mut self, bytes: &[u8], due: u64) -> bool {
-        self.due = due;
-        self.held.extend_from_slice(bytes).is_ok()
-    }
-
-    /// Whether bytes are held, and a turn may hear them when the clock shows `now`, or can't be read.
-    pub(crate) fn is_due(&self, now: Option<u64>) -> bool {
-        let has_waited = match now {
-            Some(now) => self.due <= now.saturating_add(SOON),
-            None => true,
-        };
-        !self.held.is_empty() && has_waited
-    }
-
-    /// Takes the bytes that are held.
-    pub(crate) fn take_held(&mut self, alloc: Global) -> Vec<u8> {
-        mem::replace(&mut self.held, Vec::new(alloc))
-    }
-
-    /// Has the connection take more of the replies that it has not taken. Once it has taken all, they have no room any
-    /// more. Answers whether it did not fail.
-    pub(crate) fn send(&mut self, alloc: Global) -> bool {
-        let mut device = &self.stream;
-        match device.write(self.unsent.as_slice()) {
-            Ok(0) => false,
-            Ok(count) => {
-                self.unsent.drain(..count);
-                if self.unsent.is_empty() {
-                    self.unsent = Vec::new(alloc);
-                }
-                true
-            }
-            Err(error) => is_slow(error.kind()),
-        }
-    }
-}
-
-/// Whether an error of this kind says that nothing was taken in time.
-fn is_slow(kind: ErrorKind) -> bool {
-    matches!(
-        kind,
-        ErrorKind::WouldBlock | ErrorKind::TimedOut | ErrorKind::Interrupted
-    )
-}
-
-/// The writer of a turn: a connection, and the replies that it has not taken. It fails if the connection fails, if the
-/// machine ends, or if it is out of memory.
-#[derive(Drop)]
-pub(crate) struct ReplyWriter<'a> {
-    stream: &'a TcpStream,
-    ended: &'a AtomicBool,
-    unsent: Vec<u8>,
-    failures: u64,
-}
-
-impl<'a> ReplyWriter<'a> {
-    /// The writer of a turn of this connection.
-    pub(crate) fn new(stream: &'a TcpStream, ended: &'a AtomicBool, unsent: Vec<u8>) -> Self {
-        ReplyWriter {
-            stream,
-            ended,
-            unsent,
-            failures: 0,
-        }
-    }
-
-    /// The replies that the connection has not taken.
-    pub(crate) fn into_unsent(self) -> Vec<u8> {
-        self.unsent
-    }
-
-    /// Counts a failure.
-    fn fault(&mut self) -> DeviceFault
-        ensures rose { HasFailed self.old.failures self.new.failures }
+    /// Which of these bytes are heard by the next turn.
+    pub(crate) fn part_of(&self, bytes: &[u8]) -> Part
+        ensures within { result.count ≤ length bytes.now }
+        ensures some { 0 < length bytes.now → 0 < result.count }
     {
-        self.failures = self.failures.saturating_add(1);
-        DeviceFault
+        part_of(self.is_within, bytes)
     }
 
-    /// How many of these bytes the connection takes now. None if it fails.
-    fn send(&self, bytes: &[u8]) -> Option<usize> {
-        let mut device = self.stream;
-        match device.write(bytes) {
-            Ok(0) => None,
-            Ok(count) => Some(count.min(bytes.len())),
-            Err(error) => { if is_slow(error.kind()) { Some(0) } else { None } }
-        }
-    }
-}
-
-impl<'a> ByteWriter for ReplyWriter<'a> {
-    ghost use Rattle.std.specs.Prelude.{None, true};
-
-    ghost taken = { λ _. None };
-
-    ghost failed = { λ writer. writer.failures };
-
-    ghost flushed = { λ _. true };
-
-    fn write(&mut self, bytes: &[u8]) -> Result<usize, DeviceFault> {
-        if self.ended.load(Ordering::SeqCst) {
-            return Err(self.fault());
-        }
-        let mut taken = 0;
-        if self.unsent.is_empty() && !bytes.is_empty() {
-            let Some(count) = self.send(bytes) else {
-                return Err(self.fault());
-            };
-            taken = count;
-        }
-        if taken < bytes.len() && self.unsent.extend_from_slice(&bytes[taken..]).is_err() {
-            return Err(self.fault());
-        }
-        Ok(bytes.len())
-    }
-
-    fn flush(&mut self) -> Result<(), DeviceFault> {
-        Ok(())
-    }
-
-    fn failures(&self) -> u64 {
-        self.failures
+    /// These bytes were heard by a turn. Adds to `untold` the lines that were answered since the last time, of so many in all.
+    pub(crate) fn count(
+        &mut self,
+        bytes: &[u8],
+        lines: u64,
+        refused: u64,
+        untold: &mut LineCounts,
+    ) {
+        self.is_within = bytes.last() != Some(&b'\n');
+        let counted = self.counted;
+        let more = lines.saturating_sub(counted.lines);
+        untold.lines = untold.lines.saturating_add(more);
+        let more = refused.saturating_sub(counted.refused);
+        untold.refused = untold.refused.saturating_add(more);
+        self.counted = LineCounts {
+            lines: lines.max(counted.lines),
+            refused: refused.max(counted.refused),
+        };
     }
 }
 
@@ -292,7 +223,7 @@ pub(crate) struct Part {
 /// At most these bytes, and at least one if there is one: what of them is heard by one turn. That is all up to the end of
 /// the first line that may be one of a commit, or all. Such a line has a `c`, or began in bytes before these if
 /// `is_within` a line. So no turn hears the line of a commit and another line behind it.
-pub(crate) fn part_of(is_within: bool, bytes: &[u8]) -> Part
+fn part_of(is_within: bool, bytes: &[u8]) -> Part
     ensures within { result.count ≤ length bytes.now }
     ensures some { 0 < length bytes.now → 0 < result.count }
 {

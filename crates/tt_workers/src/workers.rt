@@ -1,199 +1,140 @@
-//! A worker: its post, and the sessions that are open. Each turn of a session is lent the post.
+//! A worker: its post, and the sessions that are open. The post is lent to one of them at a time.
 
-ghost use Rattle.std.specs.Prelude.{◌≡◌, ◌≢◌, ◌≤◌, ◌+◌, ◌⊎◌, ℕ, None, Some, IfSome, IsFalse, IsTrue, false, length};
-ghost use Rattle.tt_stream.specs.Counts.{HasFailed};
-ghost use Rattle.tt_session.specs.Commits.{max_pause, pause_margin};
-ghost use Rattle.tt_connections.specs.Visits.{new_visit};
-ghost use Rattle.tt_workers.specs.Worker.{Broken, IsSpent, Turned, WorkerServed, counts_in, is_pending_in, max_sessions};
+ghost use Rattle.std.specs.Prelude.{◌≡◌, ◌≢◌, ◌≤◌, ℕ, None, Some, IfSome, OnOk, OnErr};
+ghost use Rattle.std.specs.Option.{option_copied};
+ghost use Rattle.tt_workers.specs.Worker.{HasWorked, IsNew, Served, ServedLast, WorkerServed, max_sessions};
 ghost use Rattle.slab.specs.Slab.{get, slab_len, Updates};
 
+use crate::sessions::{After, MachinePost, PIECE, Session, Task};
+use crate::states::ThreadState;
 use slab::Slab;
 use std::alloc::Global;
+use std::io::{Read, Write};
 use std::marker::Model;
 use std::snapshot::Snapshot;
 use std::sync::Wait;
 use std::time::Clock as SystemClock;
-use tt_clock::MachineClock;
-use tt_connections::{Client, Post, Visit};
 use tt_publish::Watch;
-use tt_session::Replies;
 use tt_stamp::Seat;
-use tt_stream::ByteWriter;
-
-/// The release steps of one line: a commit that is pending is answered at once, and its line waits when it comes again.
-const WAITS: u32 = 1;
 
 /// The most sessions of one worker. So 32 workers have over 10,000.
 pub const MAX_SESSIONS: usize = 320;
 
-/// A worker: its post, and what is kept of each session that is open, at a place of its own. In contracts it is these
+/// A worker: its post, and each session that is open with its connection, at a place of its own. In contracts it is these
 /// two, and the post with which it began.
 ///
-/// Whatever turns there were: each led from the post that it found to the one that it left, and was a turn of one
-/// session.
+/// Whatever turns there were: each led from the post that it found to the one that it left, and was a turn of one session.
+/// What a session has heard is what its connection gave, in order and once, and its replies are what was written there.
 #[derive(Drop)]
-pub struct Worker<'a, R> {
-    /// Its post, which is lent to a turn by value. It is there between two turns.
-    post: Option<Post<'a, R, MachineClock<'a, R>>>,
-    visits: Slab<Visit>,
-    first: Snapshot<Post<'a, R, MachineClock<'a, R>>>,
+pub struct Worker<'a, R, I: Read, O: Write> {
+    /// Its post, which is lent to a session by value. It is there between two loans.
+    post: Option<MachinePost<'a, R>>,
+    sessions: Slab<Session<'a, I, O>>,
+    first: Snapshot<MachinePost<'a, R>>,
 }
 
-impl<'a, R> Model for Worker<'a, R> {
+impl<'a, R, I: Read, O: Write> Model for Worker<'a, R, I, O> {
     ghost use Rattle.slab.specs.Slab.{get};
     ghost use Rattle.tt_workers.specs.Worker.{WorkerState, IsAt, post_or};
 
     ghost Value = { WorkerState };
 
-    ghost view = { λ w. record { first = w.first.value; post = post_or w.first.value w.post; visits = w.visits } };
+    ghost view = { λ w. record { first = w.first.value; post = post_or w.first.value w.post; sessions = w.sessions } };
 
-    ghost invariant = { λ w. IsAt w.first.value w.post (get w.visits) };
+    ghost invariant = { λ w. IsAt w.first.value w.post (get w.sessions) };
 }
 
-/// Ends the session at this place, if there is one.
-fn finish_at<'c, R: Wait + SystemClock>(
-    visits: &mut Slab<Visit>,
-    place: usize,
-    client: &Client<'c, R>,
-)
-    ensures updates { Updates visits.old visits.new place None }
-{
-    if let Some(visit) = visits.try_remove(place) {
-        visit.finish(client);
-    }
-}
-
-impl<'a, R: Wait + SystemClock> Worker<'a, R> {
+impl<'a, R: Wait + SystemClock, I: Read + Drop, O: Write + Drop> Worker<'a, R, I, O> {
     /// A worker with this post, that has served no session.
-    pub fn new(alloc: Global, post: Post<'a, R, MachineClock<'a, R>>) -> Self
+    pub fn new(alloc: Global, post: MachinePost<'a, R>) -> Self
         ensures first { result.first ≡ post.entry }
         ensures post { result.post ≡ post.entry }
-        ensures none { (place : ℕ) → get result.visits place ≡ None }
+        ensures none { (place : ℕ) → get result.sessions place ≡ None }
     {
         let first = Snapshot::of(&post);
         Worker {
             post: Some(post),
-            visits: Slab::new(alloc),
+            sessions: Slab::new(alloc),
             first,
         }
     }
 
     /// How many sessions are open.
     pub fn open_sessions(&self) -> usize
-        ensures value { result ≡ slab_len self.now.visits }
+        ensures value { result ≡ slab_len self.now.sessions }
     {
-        self.visits.len()
+        self.sessions.len()
     }
 
-    /// Begins a session. Answers its place. None, and all stays as it was, if [`MAX_SESSIONS`] are open, or if it is out
-    /// of memory.
-    pub fn begin(&mut self, alloc: Global) -> Option<usize>
+    /// All sessions that are open are at places below this.
+    pub(crate) fn places(&self) -> usize {
+        self.sessions.capacity()
+    }
+
+    /// The session at this place.
+    pub(crate) fn session(&self, place: usize) -> Option<&Session<'a, I, O>>
+        ensures value { option_copied result ≡ get self.now.sessions place }
+    {
+        self.sessions.get(place)
+    }
+
+    /// Opens this session, which begins. Answers its place. None, and all stays as it was, if [`MAX_SESSIONS`] are open, or
+    /// if it is out of memory. Requires: it has heard nothing so far.
+    pub(crate) fn begin(&mut self, session: Session<'a, I, O>) -> Option<usize>
+        requires is_new { IsNew session }
         ensures first { self.new.first ≡ self.old.first }
         ensures post { self.new.post ≡ self.old.post }
-        ensures free { IfSome result (λ place. get self.old.visits place ≡ None) }
-        ensures begun { IfSome result (λ place. Updates self.old.visits self.new.visits place (Some new_visit)) }
-        ensures none { (result ≡ None) → (place : ℕ) → get self.new.visits place ≡ get self.old.visits place }
-        ensures most { max_sessions ≤ slab_len self.old.visits → result ≡ None }
+        ensures free { IfSome result (λ place. get self.old.sessions place ≡ None) }
+        ensures begun { IfSome result (λ place. Updates self.old.sessions self.new.sessions place (Some session.entry)) }
+        ensures none { (result ≡ None) → (place : ℕ) → get self.new.sessions place ≡ get self.old.sessions place }
+        ensures most { max_sessions ≤ slab_len self.old.sessions → result ≡ None }
     {
-        if self.visits.len() >= MAX_SESSIONS {
+        if self.sessions.len() >= MAX_SESSIONS {
             return None;
         }
-        match self.visits.insert(Visit::new(alloc)) {
+        match self.sessions.insert(session) {
             Ok(place) => Some(place),
             Err(_) => None,
         }
     }
 
-    /// Whether a commit of the session at this place is pending.
-    pub fn is_pending(&self, place: usize) -> bool
-        ensures value { result ≡ is_pending_in (get self.now.visits place) }
-    {
-        match self.visits.get(place) {
-            Some(visit) => visit.is_pending(),
-            None => false,
-        }
-    }
-
-    /// At most a pause and its margin, and None where no commit is pending in the session at this place. So many
-    /// nanoseconds the pending commit should still wait: see [`Visit::left`].
-    pub fn left(&self, place: usize, clock: Option<u64>) -> Option<u64>
-        ensures none { is_pending_in (get self.now.visits place) ≡ false → result ≡ None }
-        ensures most { IfSome result (λ left. left ≤ max_pause + pause_margin) }
-    {
-        match self.visits.get(place) {
-            Some(visit) => visit.left(clock),
-            None => None,
-        }
-    }
-
-    /// One turn of the session at this place, over these bytes: see [`Post::turn`]. Answers whether the session goes on.
-    /// If not, it has ended: there is no session, or its lines can't be counted any more, and then nothing is written and
-    /// the post stays as it was; or the writer failed, and has what [`Post::turn`] says.
-    pub fn turn<'c, O: ByteWriter>(
+    /// Lends the post to the session at this place for a task: see [`Session::perform`]. No other session changes, and no
+    /// other connection. Refuses with the session if it is over, which has ended then. Where there is none, all stays as it was.
+    pub(crate) fn lend(
         &mut self,
         place: usize,
-        client: &Client<'c, R>,
-        bytes: &[u8],
-        writer: &mut O,
-        replies: &mut Replies,
-    ) -> bool
+        task: Task,
+        state: &mut ThreadState<'a, R>,
+        buffer: &mut [u8; PIECE],
+    ) -> Result<After, Option<Session<'a, I, O>>>
         ensures first { self.new.first ≡ self.old.first }
-        ensures others { (other : ℕ) → other ≢ place → get self.new.visits other ≡ get self.old.visits other }
-        ensures turned { IsTrue result → Turned (O.taken writer.old) (O.taken writer.new) client.now bytes.now
-            (get self.old.visits place) self.old.post (get self.new.visits place) self.new.post }
-        ensures ended { IsFalse result → get self.new.visits place ≡ None }
-        ensures cause { IsFalse result → (IsSpent (length bytes.now) (get self.old.visits place) × (writer.new ≡ writer.old) × (self.new.post ≡ self.old.post))
-            ⊎ (HasFailed (O.failed writer.old) (O.failed writer.new) × Broken O.taken O.flushed writer.old writer.new client.now bytes.now
-            (get self.old.visits place) self.old.post self.new.post) }
+        ensures others { (other : ℕ) → other ≢ place → get self.new.sessions other ≡ get self.old.sessions other }
+        ensures served { OnOk result (Served (get self.old.sessions place) self.old.post (get self.new.sessions place) self.new.post) }
+        ensures last { OnErr result (ServedLast (get self.old.sessions place) self.old.post self.new.post) }
+        ensures ended { OnErr result (get self.new.sessions place ≡ None) }
     {
-        let Some(visit) = self.visits.get_mut(place) else {
-            return false;
+        let Some(session) = self.sessions.get_mut(place) else {
+            return Ok(After::Done);
         };
-        if !visit.can_hear(bytes.len()) {
-            finish_at(&mut self.visits, place, client);
-            return false;
-        }
         let Some(post) = self.post.take() else {
             unreachable!()
         };
-        let (post, done) = post.turn(client, visit, bytes, writer, replies, WAITS);
+        let (post, done) = session.perform(task, post, state, buffer);
         self.post = Some(post);
-        let goes_on = done.is_ok();
-        if !goes_on {
-            finish_at(&mut self.visits, place, client);
-        }
-        goes_on
-    }
-
-    /// Ends the session at this place, if there is one.
-    pub fn end<'c>(&mut self, place: usize, client: &Client<'c, R>)
-        ensures first { self.new.first ≡ self.old.first }
-        ensures post { self.new.post ≡ self.old.post }
-        ensures ended { Updates self.old.visits self.new.visits place None }
-    {
-        finish_at(&mut self.visits, place, client);
-    }
-
-    /// How many lines of the session at this place were answered, and how many of them were refused; 0 if there is none.
-    pub fn served(&self, place: usize) -> (u64, u64)
-        ensures value { result ≡ counts_in (get self.now.visits place) }
-    {
-        match self.visits.get(place) {
-            Some(visit) => {
-                let served = visit.served();
-                (served.lines, served.refused)
-            }
-            None => (0, 0),
+        match done {
+            Ok(after) => Ok(after),
+            Err(_) => Err(self.sessions.try_remove(place)),
         }
     }
 
-    /// Ends the session at this place, if there is one. It has no client to tell of it.
-    pub fn forget(&mut self, place: usize)
+    /// Ends the session at this place, and answers it, if there is one.
+    pub(crate) fn end(&mut self, place: usize) -> Option<Session<'a, I, O>>
         ensures first { self.new.first ≡ self.old.first }
         ensures post { self.new.post ≡ self.old.post }
-        ensures ended { Updates self.old.visits self.new.visits place None }
+        ensures value { result ≡ get self.old.sessions place }
+        ensures ended { Updates self.old.sessions self.new.sessions place None }
     {
-        drop(self.visits.try_remove(place));
+        self.sessions.try_remove(place)
     }
 
     /// Ends the worker, and with it each session that is still open. Answers its watch and its seat.
@@ -202,13 +143,21 @@ impl<'a, R: Wait + SystemClock> Worker<'a, R> {
     {
         let Worker {
             post,
-            mut visits,
+            mut sessions,
             ..
         } = self;
-        visits.clear();
+        sessions.clear();
         match post {
             Some(post) => post.into_parts(),
             None => unreachable!(),
         }
+    }
+
+    /// A law of workers: from the post with which it began there were turns alone, of sessions that have ended since or are
+    /// open. Each that is open stands by what its connection gave, and what was written there.
+    pub fn law(&self)
+        ensures worked { HasWorked self.now.first self.now.post (get self.now.sessions) }
+    {
+        let _ = &self.post;
     }
 }

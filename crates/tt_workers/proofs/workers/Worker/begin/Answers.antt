@@ -8,6 +8,6 @@ invariant_of-self g c =
     record {
       is_there = c.self.invariant.is_there;
       worked =
-          session-begins first _ c.self.inside.visits c.insert.new.self c.new.result c.insert.result c.new.ensures.made said.was_vacant said.updates said.err
+          session-begins first _ c.self.inside.sessions c.insert.new.self c.args.session c.insert.result c.requires.is_new said.was_vacant said.updates said.err
           c.self.invariant.worked;
     }

@@ -6,5 +6,5 @@ invariant_of-self g c =
     let first = c.self.inside.first.value in
     record {
       is_there = c.self.invariant.is_there;
-      worked = session-ends first _ c.self.inside.visits c.finish_at.new.visits c.args.place c.finish_at.ensures.updates c.self.invariant.worked;
+      worked = session-ends first _ c.self.inside.sessions c.try_remove.new.self c.args.place c.try_remove.ensures.updates c.self.invariant.worked;
     }

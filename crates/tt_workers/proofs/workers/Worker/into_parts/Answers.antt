@@ -13,5 +13,5 @@ returns g c =
     record {
       served =
           subst (λ (p : PostState ClockState). WorkerServed p c.into_parts.result.0 c.into_parts.result.1) (ap (λ (w : WorkerState). w.first) c.self.view_is)
-          (all-end first post c.self.inside.visits c.into_parts.result.0 c.into_parts.result.1 said.watch said.seat (worked-at first post _ _ (sym c.in-Some.is) c.self.invariant.worked));
+          (all-end first post c.self.inside.sessions c.into_parts.result.0 c.into_parts.result.1 said.watch said.seat (worked-at first post _ _ (sym c.in-Some.is) c.self.invariant.worked));
     }
