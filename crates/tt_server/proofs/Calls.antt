@@ -23,7 +23,7 @@ use Rattle.tt_server.specs.Round.{CallsInTurn, MakesCall, MakesHeardCall, kept_w
 
 -- ---- what is kept
 
-spans-of : (items : List Publication) → map fused_span (fusions_in items) ≡ map fused_span_of items
+pub spans-of : (items : List Publication) → map fused_span (fusions_in items) ≡ map fused_span_of items
 spans-of [] = refl
 spans-of (item ∷ items) = ap (λ (spans : List FusedSpan). fused_span_of item ∷ spans) (spans-of items)
 

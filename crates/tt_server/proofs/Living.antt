@@ -1,14 +1,16 @@
 -- Lives of the server: its epochs, its sessions, and what its threads hand back.
-use Rattle.std.specs.Prelude.{◌≡◌, ◌<◌, ◌+◌, ◌^◌, ◌==◌, ℕ, Bool, true, false, if◌then◌else◌, List, [], ◌∷◌, ◌++◌, length, map, All, Result, Ok, Err, IfOk}
+use Rattle.std.specs.Prelude.{◌≡◌, ◌<◌, ◌+◌, ◌^◌, ◌==◌, ℕ, suc, Bool, true, false, if◌then◌else◌, List, [], ◌∷◌, length, map, All, Result, Ok, Err, IfOk}
 use Rattle.std.proofs.Common.{refl, sym, ap, ◌∙◌, subst, arith}
 use Rattle.std.proofs.lemmas.List.Elements.{All-nil, All-cons, All-head, All-tail, All-weaker}
 use mathlib.Core.List.{IsPrefix}
-use Rattle.tt_daemon.specs.Config.{IsConfiguration}
+use Rattle.atomic_table.specs.Seated.{TableId}
+use Rattle.tt_daemon.specs.Config.{Configuration, IsConfiguration}
 use Rattle.tt_daemon.specs.Daemon.{DaemonState, new_daemon}
 use Rattle.tt_daemon.specs.Publication.{Publication}
 use Rattle.tt_publish.specs.Known.{Known, Source, WatchState, seen_of, new_watch}
 use Rattle.tt_publish.specs.Reading.{fused_span_of}
-use Rattle.tt_stamp.specs.Stamping.{SeatState}
+use Rattle.tt_stamp.specs.Stamping.{SeatState, IsLegalRun, new_seat}
+use Rattle.tt_stamp.specs.declared.stampings.Stamping.{Stamping}
 use Rattle.tt_connections.specs.Station.{PostState}
 use Rattle.tt_connections.specs.Sessions.{AreServedBetween}
 use Rattle.tt_connections.specs.declared.posts.Terms.{Terms}
@@ -18,15 +20,19 @@ use Rattle.tt_epoch.specs.Disk.{Call, Gift, Gave, NotOwn, Done, Broke, number_of
 use Rattle.tt_epoch.specs.Course.{Stage, Reads, Writes, Syncs, Installs, Fixes, Answered, Over, step_of, stage_after, Takes}
 use Rattle.tt_epoch.specs.declared.faults.EpochFault.TheVariants.{UsedUp}
 use Rattle.tt_settings.specs.Settings.{Meaning}
+use Rattle.tt_settings.specs.declared.forms.OnBreak.{OnBreak}
 use Rattle.tt_settings.specs.declared.plans.Pauses.{Pauses}
 use Rattle.tt_consistency.specs.Calls.{RoundsCall, AreInTurn, RiseIn, kept_after}
 use Rattle.tt_consistency.specs.Steps.{Kept}
+use Rattle.tt_node.specs.Sharing.{AllFrom}
 use Rattle.tt_consistency.specs.Lives.{IsLife, WorksIn}
+use Rattle.tt_consistency.specs.Sequencer.{HaveSeatsOf, ShareOneSequencer}
 use Rattle.tt_server.specs.declared.faults.ServerFault.{ServerFault}
 use Rattle.tt_server.specs.declared.states.Life.{Life as Current}
 use Rattle.tt_server.specs.declared.lives.LifeEnd.{LifeEnd}
 use Rattle.tt_server.specs.declared.lives.WorkerEnd.{WorkerEnd}
-use Rattle.tt_server.specs.Life.{ServerWorker, ServerLife, ServesByTurns, HandsBack, TellOfEach, TellsOf}
+use Rattle.tt_server.specs.Break.{EndsBy}
+use Rattle.tt_server.specs.Life.{ServerWorker, ServerLife, ServesByTurns, HandsBack, HandsShare, HandShares, TellOfEach, TellsOf}
 use Rattle.tt_server.specs.Thread.{HasSettings, terms_in, widest_in}
 
 -- ---- epochs
@@ -108,11 +114,11 @@ took-epoch does before after epoch current (Ok end) same takes is = subst (λ (n
 took-epoch does before after epoch current (Err fault) same takes is = tt
 
 -- ---- what a worker hands back
--- a worker that began with this watch and these terms, and ended, hands back what its watch had seen
-pub handed-back : (watch seen : WatchState) (terms : Terms) (first : PostState ClockState) (seat : SeatState) (end : WorkerEnd)
-    → first.watch ≡ watch → first.lease ≡ terms.lease → first.stampers ≡ terms.stampers → first.ahead ≡ terms.ahead → first.max_width ≡ terms.max_width
-    → WorkerServed first seen seat → end.seen ≡ seen_of seen → HandsBack watch terms end
-handed-back watch seen terms first seat end watch_is lease_is stampers_is ahead_is width_is served seen_is = record {
+-- a worker that began with this watch, these terms and this seat, and ended, hands back what its watch had seen, and its seat
+pub handed-back : (watch seen : WatchState) (terms : Terms) (first : PostState ClockState) (begun seat : SeatState) (end : WorkerEnd)
+    → first.watch ≡ watch → first.lease ≡ terms.lease → first.stampers ≡ terms.stampers → first.ahead ≡ terms.ahead → first.max_width ≡ terms.max_width → first.seat ≡ begun
+    → WorkerServed first seen seat → end.seen ≡ seen_of seen → HandsBack watch terms begun end seat
+handed-back watch seen terms first begun seat end watch_is lease_is stampers_is ahead_is width_is begun_is served seen_is = record {
   worker = record { post = first; last = served.last; sessions = served.sessions };
   watch_is = watch_is;
   lease_is = lease_is;
@@ -123,12 +129,9 @@ handed-back watch seen terms first seat end watch_is lease_is stampers_is ahead_
   between = served.between;
   by_turns = served.by_turns;
   seen_is = seen_is ∙ ap seen_of served.watch_is;
+  begun_is = begun_is;
+  seat_is = served.seat_is;
 }
-
--- the same of an equal watch and equal terms
-pub handed-by : (watch watch' : WatchState) (terms terms' : Terms) (end : WorkerEnd) → watch' ≡ watch → terms' ≡ terms → HandsBack watch' terms' end → HandsBack watch terms end
-handed-by watch watch' terms terms' end same same' handed =
-    subst (λ (w : WatchState). HandsBack w terms end) same (subst (λ (t : Terms). HandsBack watch' t end) same' handed)
 
 -- ---- watches
 -- new watches of the same source, by a clock with the same drift
@@ -150,32 +153,38 @@ record Fits (watch : WatchState) (terms : Terms) (published : List Publication) 
   pub by_turns : ServesByTurns worker
   pub seen : IsPrefix worker.last.watch.items published
 
-abbrev pub Handed : WatchState → Terms → WorkerEnd → Type 0
-Handed watch terms end = HandsBack watch terms end
+-- what holds of each element and its place says this of each
+All-from : {A : Type 0} (Holds : ℕ → A → Type 0) (Goes : A → Type 0) → ((place : ℕ) (x : A) → Holds place x → Goes x) → (place : ℕ) (xs : List A) → AllFrom Holds place xs → All Goes xs
+All-from Holds Goes goes place [] none = All-nil Goes
+All-from Holds Goes goes place (x ∷ xs) (here, rest) = All-cons Goes x xs (goes place x here) (All-from Holds Goes goes (place + 1) xs rest)
 
 abbrev pub Begins : List Publication → WorkerEnd → Type 0
 Begins published end = IsPrefix end.seen.items published
 
 -- what a worker has seen is of the source of its watch
-pub source-handed : (watch : WatchState) (terms : Terms) (end : WorkerEnd) → Handed watch terms end → end.seen.source ≡ watch.source
-source-handed watch terms end handed =
+source-handed : (watch : WatchState) (terms : Terms) (begun : SeatState) (end : WorkerEnd) (seat : SeatState) → HandsBack watch terms begun end seat → end.seen.source ≡ watch.source
+source-handed watch terms begun end seat handed =
     ap (λ (k : Known). k.source) handed.seen_is ∙ (handed.goes.watch.source ∙ ap (λ (w : WatchState). w.source) handed.watch_is)
 
-pub sources-handed : (watch : WatchState) (terms : Terms) (ends : List WorkerEnd) → All (Handed watch terms) ends → All (λ (end : WorkerEnd). end.seen.source ≡ watch.source) ends
-sources-handed watch terms ends all =
-    All-weaker (Handed watch terms) (λ (end : WorkerEnd). end.seen.source ≡ watch.source) (source-handed watch terms) ends all
+pub sources-handed : (watch : WatchState) (terms : Terms) (ends : List WorkerEnd) → HandShares watch terms ends → All (λ (end : WorkerEnd). end.seen.source ≡ watch.source) ends
+sources-handed watch terms ends handed =
+    All-from (HandsShare watch terms handed.table (length ends) handed.history) (λ (end : WorkerEnd). end.seen.source ≡ watch.source)
+    (λ number end share. source-handed watch terms (new_seat handed.table (length ends) number) end share.seat share.handed) 0 ends handed.each
 
-record Told (watch : WatchState) (terms : Terms) (published : List Publication) (ends : List WorkerEnd) : Type 0 where
+record Told (watch : WatchState) (terms : Terms) (table : TableId) (seats : ℕ) (history : List Stamping) (number : ℕ) (published : List Publication) (ends : List WorkerEnd) : Type 0 where
   pub workers : List ServerWorker
   pub each : TellOfEach ends workers
   pub fit : All (Fits watch terms published) workers
   pub len : length workers ≡ length ends
+  pub shares : HaveSeatsOf table seats history number workers
 
-told-of : (watch : WatchState) (terms : Terms) (published : List Publication) (ends : List WorkerEnd) → All (Handed watch terms) ends → All (Begins published) ends → Told watch terms published ends
-told-of watch terms published [] all begin = record { workers = []; each = tt; fit = All-nil (Fits watch terms published); len = refl }
-told-of watch terms published (end ∷ ends) all begin =
-    let here = All-head (Handed watch terms) end ends all in
-    let rest = told-of watch terms published ends (All-tail (Handed watch terms) end ends all) (All-tail (Begins published) end ends begin) in
+told-of : (watch : WatchState) (terms : Terms) (table : TableId) (seats : ℕ) (history : List Stamping) (number : ℕ) (published : List Publication) (ends : List WorkerEnd)
+    → AllFrom (HandsShare watch terms table seats history) number ends → All (Begins published) ends → Told watch terms table seats history number published ends
+told-of watch terms table seats history number published [] all begin = record { workers = []; each = tt; fit = All-nil (Fits watch terms published); len = refl; shares = tt }
+told-of watch terms table seats history number published (end ∷ ends) all begin =
+    let here = all.0.handed in
+    let rest = told-of watch terms table seats history (number + 1) published ends all.1 (All-tail (Begins published) end ends begin) in
+    let next : number + 1 ≡ suc number = omega arith in
     let begins : IsPrefix (seen_of here.worker.last.watch).items published =
     subst (λ (k : Known). IsPrefix k.items published) here.seen_is (All-head (Begins published) end ends begin) in
     let fits : Fits watch terms published here.worker =
@@ -186,6 +195,7 @@ told-of watch terms published (end ∷ ends) all begin =
       each = (here.seen_is, rest.each);
       fit = All-cons (Fits watch terms published) here.worker rest.workers fits rest.fit;
       len = omega arith;
+      shares = (all.0.share, subst (λ (n : ℕ). HaveSeatsOf table seats history n rest.workers) next rest.shares);
     }
 
 -- ---- a life
@@ -209,23 +219,33 @@ has-called from to published told first shown none same called = subst (λ (item
 )
 
 -- what the workers handed back, as their watches are of the source that was told
-pub handed-of : (source source' : Source) (drift : ℕ) (terms : Terms) (ends : List WorkerEnd) → source' ≡ source → All (Handed (new_watch source drift) terms) ends → All (Handed (new_watch source' drift) terms) ends
-handed-of source source' drift terms ends same all = subst (λ (s : Source). All (Handed (new_watch s drift) terms) ends) (sym same) all
+pub handed-of : (source source' : Source) (drift : ℕ) (terms : Terms) (ends : List WorkerEnd) → source' ≡ source → HandShares (new_watch source drift) terms ends → HandShares (new_watch source' drift) terms ends
+handed-of source source' drift terms ends same all = subst (λ (s : Source). HandShares (new_watch s drift) terms ends) (sym same) all
+
+-- as many workers as ends share one sequencer
+share-one : (table : TableId) (history : List Stamping) (workers : List ServerWorker) (count : ℕ) → length workers ≡ count → IsLegalRun count history → HaveSeatsOf table count history 0 workers → ShareOneSequencer workers
+share-one table history workers count len legal each = record {
+  table = table;
+  history = history;
+  legal = subst (λ (n : ℕ). IsLegalRun n history) (sym len) legal;
+  each = subst (λ (n : ℕ). HaveSeatsOf table n history 0 workers) (sym len) each;
+}
 
 -- a life that ended, from what its threads handed back
 pub life-ended : (settings : Meaning) (current : Current) (end : LifeEnd) (from to : DaemonState) (shown : ℕ)
     → HasSettings settings current → IsConfiguration current.config → current.epoch < 2 ^ 64
     → from ≡ new_daemon settings.machine current.config current.epoch
     → HasCalled from to end.published.items shown
-    → All (Handed (new_watch end.published.source current.config.drift) (terms_in current)) end.workers.items
+    → HandShares (new_watch end.published.source current.config.drift) (terms_in current) end.workers.items
     → All (Begins end.published.items) end.workers.items
     → end.epoch ≡ current.epoch → length end.workers.items ≡ settings.config.workers
+    → EndsBy current.on_break current.config.drift (map fused_span_of end.published.items) end.broken
     → (life : ServerLife) × TellsOf settings end life
-life-ended settings current end from to shown has configured below new called handed begin epoch count =
+life-ended settings current end from to shown has configured below new called handed begin epoch count breaks =
     let watch = new_watch end.published.source current.config.drift in
     let terms = terms_in current in
     let published = end.published.items in
-    let told = told-of watch terms published end.workers.items handed begin in
+    let told = told-of watch terms handed.table (length end.workers.items) handed.history 0 published end.workers.items handed.each begin in
     let (calls, in_turn, kept, rise) = subst (λ (d : DaemonState). HasCalled d to published shown) new called in
     let life : ServerLife = record {
       config = current.config;
@@ -273,5 +293,14 @@ life-ended settings current end from to shown has configured below new called ha
         workers = told.len ∙ count;
         by_turns = All-weaker (Fits watch terms published) ServesByTurns (λ (worker : ServerWorker) fits. fits.by_turns) told.workers told.fit;
         ends = told.each;
+        shares = share-one handed.table handed.history told.workers (length end.workers.items) told.len handed.legal told.shares;
+        breaks = subst (λ (act : OnBreak). EndsBy act settings.config.drift (map fused_span_of published) end.broken) has.on_break
+            (subst (λ (config : Configuration). EndsBy current.on_break config.drift (map fused_span_of published) end.broken) has.config breaks);
       },
     )
+
+-- the end of a life tells how it ended
+pub life-breaks : (settings : Meaning) (result : Result LifeEnd ServerFault) → IfOk result (λ (end : LifeEnd). (life : ServerLife) × TellsOf settings end life)
+    → IfOk result (λ (end : LifeEnd). EndsBy settings.on_break settings.config.drift (map fused_span_of end.published.items) end.broken)
+life-breaks settings (Ok end) told = told.1.breaks
+life-breaks settings (Err fault) told = tt

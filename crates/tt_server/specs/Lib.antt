@@ -4,6 +4,7 @@ pub mod Own
 pub mod Name
 pub mod Mode
 pub mod Round
+pub mod Break
 pub mod Life
 pub mod Thread
 pub mod Evidence

@@ -1,5 +1,5 @@
 -- The names of sources: which have one, when it is looked up, and what is new of it.
-use Rattle.std.specs.Prelude.{◌≡◌, ◌≢◌, ◌⊎◌, ℕ, ◌-◌, ◌+◌, ◌*◌, ◌^◌, ◌&&◌, min, nat_le, nat_lt, if◌then◌else◌, string_bytes, Bool, true, List, [], ◌∷◌, ◌++◌, Option, Some, None}
+use Rattle.std.specs.Prelude.{◌≡◌, ◌≢◌, ◌⊎◌, ℕ, ◌-◌, ◌+◌, ◌*◌, ◌^◌, ◌&&◌, ◌||◌, not, min, nat_le, nat_lt, if◌then◌else◌, string_bytes, Bool, true, false, List, [], ◌∷◌, ◌++◌, Option, Some, None}
 use Rattle.std.specs.List.{list_any}
 use Rattle.std.specs.Option.{is_some}
 use Rattle.std.specs.declared.net.socket_addr.SocketAddr.{SocketAddr}
@@ -70,8 +70,13 @@ patience_of pauses = min (min (pauses.poll + pauses.wait) (2 ^ 64 - 1) * 4) (2 ^
 
 -- what is known after a lookup that found this address, or none; the one that was found before stays
 abbrev pub lookups_after : Option SocketAddr → Lookups → Lookups
-lookups_after (Some address) l = record l { address = Some address }
-lookups_after None l = record l { missed = one_more l.missed }
+lookups_after (Some address) l = record l { address = Some address; is_missing = false }
+lookups_after None l = record l { missed = one_more l.missed; is_missing = true }
+
+-- what is known once this address is asked, which was found before
+abbrev pub lookups_asking : Option SocketAddr → Lookups → Lookups
+lookups_asking (Some address) l = record l { address = Some address }
+lookups_asking None l = l
 
 -- the address that is new
 abbrev pub IsNews : Option SocketAddr → Option SocketAddr → Option SocketAddr → Type 0
@@ -81,3 +86,7 @@ IsNews before after (Some address) = (after ≡ Some address) × (before ≢ Som
 -- a lookup since then found none
 abbrev pub has_missed : Lookups → Lookups → Bool
 has_missed before after = nat_lt before.missed after.missed
+
+-- the last lookup found an address, and one before it, since then or just before, found none
+abbrev pub is_found_again : Lookups → Lookups → Bool
+is_found_again before after = not after.is_missing && (before.is_missing || has_missed before after)

@@ -1,17 +1,20 @@
 //! The record of the last break in the folder of the state, and the pause before a start that follows it. And what a break
 //! means.
 
-ghost use Rattle.std.specs.Prelude.{◌≡◌, ◌⊎◌, ℕ, ◌+◌, ◌-◌, ◌^◌, ◌<◌, ◌≤◌, List, [], ◌∷◌, ◌++◌, length, map, slice_get, Some};
+ghost use Rattle.std.specs.Prelude.{◌≡◌, ◌⊎◌, ℕ, ◌+◌, ◌-◌, ◌^◌, ◌<◌, ◌≤◌, List, [], ◌∷◌, ◌++◌, length, map, slice_get, Some, IfSome};
 ghost use Rattle.tt_span.specs.Time.{max_time};
 ghost use Rattle.tt_span.specs.Drift.{KeepsDrift};
 ghost use Rattle.tt_publish.specs.Reading.{fused_span_of};
 ghost use Rattle.tt_publish.specs.declared.readings.FusedSpan.{FusedSpan as TheFused};
 ghost use Rattle.tt_health.specs.Break.{IsUnmet};
 ghost use Rattle.tt_settings.specs.Settings.{Meaning};
+ghost use Rattle.tt_status.specs.Reason.{number_of, reason_told};
+ghost use Rattle.tt_telemetry.specs.Notice.{event_of_unmet};
 ghost use Rattle.tt_consistency.specs.Calls.{RoundsCall, calls_steps, kept_after};
 ghost use Rattle.tt_consistency.specs.Faulty.{FewFaulty};
 ghost use Rattle.tt_consistency.specs.Lives.{begun_in};
 ghost use Rattle.tt_consistency.specs.Timeline.{AreOfTime, IsTimeline, Timed, moments_told, steps_told};
+ghost use Rattle.tt_server.specs.Break.{broken_by};
 ghost use Rattle.tt_server.specs.Life.{ServerLife, TellsOf};
 ghost use Rattle.tt_server.specs.declared.lives.LifeEnd.{LifeEnd as TheEnd};
 
@@ -23,15 +26,17 @@ use std::time::{Clock as SystemClock, Duration};
 use tt_clock::reading_of;
 use tt_files::{open_regular, replace};
 use tt_health::{
-    BreakRecord, breaks_in_a_row, breaks_recorded, pause_before_start, record_after, record_of,
+    BreakMoment, BreakRecord, breaks_in_a_row, pause_before_start, record_after, record_of,
     record_text,
 };
-use tt_host::read_start;
+use tt_host::{nanoseconds, read_start};
 use tt_report::Reporter;
-use tt_status::LogEvent;
+use tt_settings::OnBreak;
+use tt_status::{BreakReason, LogEvent};
+use tt_telemetry::Unmet;
 
 /// The most bytes of a record that are read.
-const MOST: usize = 80;
+const MOST: usize = 120;
 
 /// The permissions of a record: its owner alone may read and write it.
 const MODE: u32 = 0o600;
@@ -48,13 +53,13 @@ fn record_in<R: Files<File = File>>(rt: &R, alloc: Global, folder: &str) -> Opti
 }
 
 /// Pauses before a start that follows breaks less than a minute ago: a tenth of a second after the first, twice as long
-/// after each further one, and at most thirty seconds. It is logged. Answers how many lives ended by a break, as recorded.
+/// after each further one, and at most thirty seconds. It is logged. Answers what is recorded of the last break.
 pub(crate) fn pause_after_breaks<R: Wait + SystemClock + Files<File = File>>(
     rt: &R,
     alloc: Global,
     reporter: &Reporter,
     folder: &str,
-) -> u64 {
+) -> Option<BreakRecord> {
     let last = record_in(rt, alloc, folder);
     if let Some(now) = reading_of(rt) {
         let breaks = breaks_in_a_row(last, now);
@@ -64,19 +69,36 @@ pub(crate) fn pause_after_breaks<R: Wait + SystemClock + Files<File = File>>(
             thread::sleep(rt, Duration::from_nanos(pause));
         }
     }
-    breaks_recorded(last)
+    last
 }
 
-/// Records a break. If that fails, the next start does not pause, and does not count it.
+/// When it is, if that can be read, and why a life broke.
+fn moment_of<R: SystemClock>(rt: &R, reason: BreakReason) -> Option<BreakMoment>
+    ensures { IfSome result (λ moment. moment.reason ≡ number_of reason) }
+{
+    let Ok(elapsed) = rt.since_1970() else {
+        return None;
+    };
+    let Some(time) = nanoseconds(elapsed) else {
+        return None;
+    };
+    Some(BreakMoment {
+        time,
+        reason: reason.number(),
+    })
+}
+
+/// Records a break for this reason. If that fails, the next start does not pause, and does not count it.
 pub(crate) fn record_break<R: SystemClock + Files<File = File>>(
     rt: &R,
     alloc: Global,
     folder: &str,
+    reason: BreakReason,
 ) {
     let Some(now) = reading_of(rt) else {
         return;
     };
-    let record = record_after(record_in(rt, alloc, folder), now);
+    let record = record_after(record_in(rt, alloc, folder), now, moment_of(rt, reason));
     let (Ok(path), Ok(draft)) = (
         format!(in alloc; "{folder}/break"),
         format!(in alloc; "{folder}/break.new"),
@@ -92,6 +114,34 @@ pub(crate) fn record_break<R: SystemClock + Files<File = File>>(
         MODE,
         true,
     );
+}
+
+/// Why a machine is broken after a sign, where it was broken so before. The last sign tells, unless the settings say that a
+/// sign is only logged.
+pub(crate) fn broken_by(
+    on_break: OnBreak,
+    event: &LogEvent,
+    broken: Option<BreakReason>,
+) -> Option<BreakReason>
+    ensures value { result ≡ broken_by on_break (reason_told event.now) broken }
+{
+    match on_break {
+        OnBreak::Warn => broken,
+        OnBreak::End | OnBreak::Stay => Some(BreakReason::told_by(event)),
+    }
+}
+
+/// The event of a publication that does not meet the last one.
+pub(crate) fn event_of_unmet(unmet: &Unmet) -> LogEvent
+    ensures { result ≡ event_of_unmet unmet.now }
+{
+    LogEvent::AssumptionBroken {
+        clock: unmet.clock,
+        lower: unmet.span.lo(),
+        upper: unmet.span.hi(),
+        last_lower: unmet.last.lo(),
+        last_upper: unmet.last.hi(),
+    }
 }
 
 /// Laws, not a call to make: what it means that two publications do not meet, which is what a machine looks for after each

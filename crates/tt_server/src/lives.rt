@@ -1,6 +1,7 @@
 //! How a life of a machine ended.
 
 use tt_publish::Told;
+use tt_status::BreakReason;
 
 /// How a worker of a machine ended. Each ends once no more clients come.
 #[derive(Drop)]
@@ -18,6 +19,7 @@ pub struct LifeEnd {
     pub published: Told,
     /// How its workers ended, as many as the configuration has.
     pub workers: Vec<WorkerEnd>,
-    /// Whether it ended because the daemon knew that an assumption is broken.
-    pub broken: bool,
+    /// Why the daemon knew that an assumption is broken, if it ended because of that. If its last round had more than one
+    /// sign, this is the last of them: publications that do not meet, then a sleep of the host, then a disruption of the guest.
+    pub broken: Option<BreakReason>,
 }

@@ -1,7 +1,7 @@
 //! The names of sources, which a thread of its own looks up.
 
 ghost use Rattle.std.specs.Prelude.{◌≡◌, ◌<◌, IfSome, map};
-ghost use Rattle.tt_server.specs.Name.{IsNews, has_missed, has_names, has_passed, is_lookup_due, is_long_ago, is_turn_due, lookups_after, named_as, named_from, next_place, patience_of};
+ghost use Rattle.tt_server.specs.Name.{IsNews, has_missed, has_names, has_passed, is_found_again, is_lookup_due, is_long_ago, is_turn_due, lookups_after, lookups_asking, named_as, named_from, next_place, patience_of};
 
 use crate::owns::{Reach, first_reached, reaches};
 use std::alloc::Global;
@@ -36,12 +36,15 @@ pub(crate) struct Lookups {
     pub(crate) address: Option<SocketAddr>,
     /// How many lookups found none, at most 2^64 - 1.
     pub(crate) missed: u64,
+    /// Whether the last lookup found none.
+    pub(crate) is_missing: bool,
 }
 
 /// Nothing was found.
 pub(crate) const NO_LOOKUPS: Lookups = Lookups {
     address: None,
     missed: 0,
+    is_missing: false,
 };
 
 impl Lookups {
@@ -53,11 +56,27 @@ impl Lookups {
             Some(address) => Lookups {
                 address: Some(address),
                 missed: self.missed,
+                is_missing: false,
             },
             None => Lookups {
                 address: self.address,
                 missed: self.missed.saturating_add(1),
+                is_missing: true,
             },
+        }
+    }
+
+    /// What is known once this address is asked, which the last lookup that found one had found, too.
+    fn asking(self, next: Option<SocketAddr>) -> Lookups
+        ensures { result ≡ lookups_asking next self }
+    {
+        match next {
+            Some(address) => Lookups {
+                address: Some(address),
+                missed: self.missed,
+                is_missing: self.is_missing,
+            },
+            None => self,
         }
     }
 }
@@ -78,6 +97,13 @@ pub(crate) fn has_missed(before: &Lookups, after: &Lookups) -> bool
     ensures value { result ≡ has_missed before.now after.now }
 {
     before.missed < after.missed
+}
+
+/// Whether the last lookup found an address, and one before it, since then or just before, found none.
+pub(crate) fn is_found_again(before: &Lookups, after: &Lookups) -> bool
+    ensures value { result ≡ is_found_again before.now after.now }
+{
+    !after.is_missing && (before.is_missing || has_missed(before, after))
 }
 
 /// Whether a clock that shows `now` showed this a minute ago or earlier, or never did.
@@ -254,6 +280,14 @@ impl NameTable {
         self.changes.fetch_add(1, Ordering::SeqCst);
     }
 
+    /// Notes that this address of a source is asked from now on.
+    fn turn<R: Wait>(&self, rt: &R, source: usize, next: Option<SocketAddr>) {
+        if let Some(lookups) = self.lookups.lock(rt).get_mut(source) {
+            *lookups = lookups.asking(next);
+        }
+        self.changes.fetch_add(1, Ordering::SeqCst);
+    }
+
     /// Has the thread end once its lookup is over. It is not waited for.
     pub(crate) fn end(&self) {
         self.ended.store(true, Ordering::SeqCst);
@@ -379,7 +413,7 @@ fn look_up_due<R: Wait + SystemClock + HostNames>(rt: &R, names: &mut Names) {
             named.tried = Some(reading_of(rt).unwrap_or(now));
         } else if is_turn_due(named.addresses.len(), named.turned, answered, now, patience) {
             let next = named.turn(now);
-            names.table.note(rt, named.source, next);
+            names.table.turn(rt, named.source, next);
         }
     }
 }

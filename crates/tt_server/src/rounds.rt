@@ -1,20 +1,24 @@
 //! The daemon: one round after the other, and what is logged, shown and shared after each.
 
-ghost use Rattle.std.specs.Prelude.{◌≡◌, ◌≤◌, List, [], map};
+ghost use Rattle.std.specs.Prelude.{◌≡◌, ◌≤◌, List, [], map, None};
 ghost use Rattle.tt_publish.specs.Reading.{fused_span_of};
 ghost use Rattle.tt_consistency.specs.Calls.{AreInTurn, RiseIn, RoundsCall, kept_after};
+ghost use Rattle.tt_server.specs.Break.{Compares, EndsBy, GoesRound, LooksAtHost, MayBreak, Settles, broken_by, came_in, last_with, seen_in, with_came};
 ghost use Rattle.tt_server.specs.Name.{IsNews};
-ghost use Rattle.tt_telemetry.specs.Notice.{event_of_unmet};
+ghost use Rattle.tt_status.specs.Reason.{reason_told};
+ghost use Rattle.tt_status.specs.declared.breaks.BreakReason.TheVariants.{Disrupted, Slept};
+ghost use Rattle.tt_telemetry.specs.Records.{Shows, published_in};
 ghost use Rattle.tt_server.specs.Round.{MakesCall, MakesHeardCall, kept_with, renewal_after};
 ghost use Rattle.tt_telemetry.specs.Status.{seals_of, unsent_of};
 
+use crate::breaks::{broken_by, event_of_unmet};
 use crate::evidence::{keep_break, published_in, show_evidence};
 use crate::links::socket_again;
-use crate::names::{Lookups, NO_LOOKUPS, NameTable, has_missed, news_of};
+use crate::names::{Lookups, NO_LOOKUPS, NameTable, has_missed, is_found_again, news_of};
 use crate::owns::Reach;
 use crate::paces::{pause_of, renewal_after, turns_of, waits_on};
 use crate::sharers::Shares;
-use crate::states::{ThreadContext, say};
+use crate::states::{ThreadContext, say, say_some};
 use crate::watches::{HostWatch, event_of_slewing, shared_by};
 use std::alloc::Global;
 use std::fs::{File, Files};
@@ -23,15 +27,18 @@ use std::sync::{Arc, Wait};
 use std::time::Clock as SystemClock;
 use tt_clock::MachineClock;
 use tt_daemon::{Daemon, Fused, MAX_SOURCES};
+use tt_health::{breaks_recorded, moment_recorded};
 use tt_host::{HostClocks, Sleep};
 use tt_publish::{Clock, Teller};
 use tt_rounds::{NodeFault, RoundLink, RoundReport, Rounds, RoundsPlan, report_rounds};
 use tt_settings::OnBreak;
 use tt_sharing::{HANGS, RoundTerms, period_of, withdrawn};
-use tt_status::LogEvent;
+use tt_status::{BreakReason, LogEvent};
 use tt_telemetry::{
-    Account, Machine, NO_SEALS, Notices, RoundRecords, Shown, SourceSeals, Totals, Unmet,
-    UnsentPackets, fresh_answers, is_stale, needed_by, records_of, status_of, unmet_of,
+    Account, Machine, NO_SEALS, Notices, RoundRecords, Shown, SourceSeals, Totals, UnsentPackets,
+    agreeing_sources, fresh_answers, fusion_event, has_failed_after, is_refused_after, is_stale,
+    is_wide, needed_by, records_of, resumed_event, sleep_event, stale_event, status_of,
+    stood_still, unmet_of, width_event, width_shown,
 };
 
 /// The link to the masters, as the daemon's thread has it.
@@ -68,10 +75,12 @@ pub(crate) struct Poller<'a, R> {
     /// What it has noticed so far.
     notices: Notices,
     host: HostWatch<'a>,
+    /// What the clock showed at the end of the last round, in nanoseconds.
+    ended: Option<u64>,
     /// The last publication, with its certificate.
     last: Option<Fused>,
-    /// Whether it knows that an assumption is broken, and has to end.
-    broken: bool,
+    /// Why it knows that an assumption is broken, if it does, and has to end.
+    broken: Option<BreakReason>,
 }
 
 impl<'a, R> Poller<'a, R> {
@@ -83,6 +92,8 @@ impl<'a, R> Poller<'a, R> {
         vmclock: Option<&'a str>,
     ) -> Poller<'a, R>
         ensures daemon { result.daemon ≡ daemon }
+        ensures shown { result.shown ≡ None }
+        ensures broken { result.broken ≡ None }
     {
         Poller {
             daemon,
@@ -99,8 +110,9 @@ impl<'a, R> Poller<'a, R> {
             strangers: 0,
             notices: Notices::new(),
             host: HostWatch::new(vmclock),
+            ended: None,
             last: None,
-            broken: false,
+            broken: None,
         }
     }
 
@@ -111,8 +123,10 @@ impl<'a, R> Poller<'a, R> {
         }
     }
 
-    /// Whether it knows that an assumption is broken, and has to end.
-    pub(crate) fn has_broken(&self) -> bool {
+    /// Why it knows that an assumption is broken, if it does, and has to end.
+    pub(crate) fn broken(&self) -> Option<BreakReason>
+        ensures value { result ≡ self.now.broken }
+    {
         self.broken
     }
 }
@@ -146,6 +160,9 @@ fn round<R: Wait + SystemClock>(
     ensures heard { MakesHeardCall poller.old.polled.link.hearing.wire (kept_with poller.old.daemon teller.old.items) (kept_with poller.new.daemon teller.new.items) clock.old.last clock.new.last }
     ensures source { teller.new.source ≡ teller.old.source }
     ensures wire { poller.new.polled.link.hearing.wire ≡ poller.old.polled.link.hearing.wire }
+    ensures published { map fused_span_of teller.new.items ≡ with_came (map fused_span_of teller.old.items) (came_in result poller.new.report.fusion) }
+    ensures shown { poller.new.shown ≡ poller.old.shown }
+    ensures broken { poller.new.broken ≡ poller.old.broken }
 {
     let plan = RoundsPlan {
         rounds: 1,
@@ -187,7 +204,7 @@ fn seals_by<R: SystemClock>(link: &RoundLink<'_, R, UdpSocket>) -> [SourceSeals;
     seals
 }
 
-/// Logs what is new of the name of a source. Answers its address, if that is new.
+/// Logs what is new of the name of a source, and that it has an address again. Answers its address, if that is new.
 fn say_lookups<R: Wait + SystemClock>(
     context: ThreadContext<'_, R>,
     source: u64,
@@ -200,7 +217,12 @@ fn say_lookups<R: Wait + SystemClock>(
         say(context, LogEvent::SourceUnresolved { source });
     }
     let news = news_of(before, after);
-    if let Some(address) = news {
+    let told = if is_found_again(before, after) {
+        after.address
+    } else {
+        news
+    };
+    if let Some(address) = told {
         say(context, LogEvent::SourceResolved { source, address });
     }
     news
@@ -211,6 +233,8 @@ fn say_lookups<R: Wait + SystemClock>(
 fn hear_names<R: Wait + SystemClock>(context: ThreadContext<'_, R>, poller: &mut Poller<'_, R>)
     ensures same { poller.new.daemon ≡ poller.old.daemon }
     ensures wire { poller.new.polled.link.hearing.wire ≡ poller.old.polled.link.hearing.wire }
+    ensures shown { poller.new.shown ≡ poller.old.shown }
+    ensures broken { poller.new.broken ≡ poller.old.broken }
 {
     let Some(table) = &poller.polled.table else {
         return;
@@ -237,6 +261,8 @@ fn hear_names<R: Wait + SystemClock>(context: ThreadContext<'_, R>, poller: &mut
 fn hear_packets<R: Wait + SystemClock>(context: ThreadContext<'_, R>, poller: &mut Poller<'_, R>)
     ensures same { poller.new.daemon ≡ poller.old.daemon }
     ensures wire { poller.new.polled.link.hearing.wire ≡ poller.old.polled.link.hearing.wire }
+    ensures shown { poller.new.shown ≡ poller.old.shown }
+    ensures broken { poller.new.broken ≡ poller.old.broken }
 {
     poller.seals = seals_by(&poller.polled.link);
     if let Some(address) = poller.polled.link.stranger() {
@@ -249,6 +275,8 @@ fn hear_packets<R: Wait + SystemClock>(context: ThreadContext<'_, R>, poller: &m
 fn hear_all<R: Wait + SystemClock>(context: ThreadContext<'_, R>, poller: &mut Poller<'_, R>)
     ensures same { poller.new.daemon ≡ poller.old.daemon }
     ensures wire { poller.new.polled.link.hearing.wire ≡ poller.old.polled.link.hearing.wire }
+    ensures shown { poller.new.shown ≡ poller.old.shown }
+    ensures broken { poller.new.broken ≡ poller.old.broken }
 {
     hear_packets(context, poller);
     hear_names(context, poller);
@@ -261,7 +289,8 @@ fn records<R: SystemClock>(
     did: &Result<Rounds, NodeFault>,
     unsent: [u64; MAX_SOURCES],
 ) -> RoundRecords
-    ensures in_range { result.events.count ≤ 50 }
+    ensures in_range { result.events.count ≤ 66 }
+    ensures shown { Shows (published_in did.now poller.now.report.fusion) result.shown }
 {
     let life = context.server.life;
     let unsent = UnsentPackets {
@@ -281,9 +310,32 @@ fn records<R: SystemClock>(
     records_of(did, &poller.report, &unsent, &poller.totals, &terms, needed)
 }
 
+/// From now on no session is given a reading, a stamp or a release, and the shared file says that nothing is published.
+fn cut_off<R: Wait + SystemClock + Files<File = File>>(
+    context: ThreadContext<'_, R>,
+    poller: &mut Poller<'_, R>,
+    now: u64,
+)
+    ensures same { poller.new.daemon ≡ poller.old.daemon }
+    ensures wire { poller.new.polled.link.hearing.wire ≡ poller.old.polled.link.hearing.wire }
+    ensures totals { poller.new.totals ≡ poller.old.totals }
+    ensures renewal { poller.new.renewal ≡ poller.old.renewal }
+    ensures shown { poller.new.shown ≡ poller.old.shown }
+    ensures broken { poller.new.broken ≡ poller.old.broken }
+{
+    let server = context.server;
+    server.listeners.break_off();
+    let nothing = withdrawn(
+        server.life.epoch,
+        poller.totals.published,
+        server.life.config.drift(),
+    );
+    poller.share.put(context.rt, &nothing, now);
+}
+
 /// A sign that an assumption is broken: it is counted and logged. Unless the settings say that it is only logged, from now
 /// on no session is given a reading, a stamp or a release, the shared file says that nothing is published, and the machine
-/// ends.
+/// ends. If there is more than one sign in a round, the last one is the reason.
 fn break_off<R: Wait + SystemClock + Files<File = File>>(
     context: ThreadContext<'_, R>,
     poller: &mut Poller<'_, R>,
@@ -294,33 +346,16 @@ fn break_off<R: Wait + SystemClock + Files<File = File>>(
     ensures wire { poller.new.polled.link.hearing.wire ≡ poller.old.polled.link.hearing.wire }
     ensures totals { poller.new.totals ≡ poller.old.totals }
     ensures renewal { poller.new.renewal ≡ poller.old.renewal }
+    ensures shown { poller.new.shown ≡ poller.old.shown }
+    ensures broken { poller.new.broken ≡ broken_by context.entry.server.now.life.on_break (reason_told event) poller.old.broken }
 {
-    let server = context.server;
-    if server.life.on_break != OnBreak::Warn {
-        server.listeners.break_off();
-        poller.broken = true;
-        let nothing = withdrawn(
-            server.life.epoch,
-            poller.totals.published,
-            server.life.config.drift(),
-        );
-        poller.share.put(context.rt, &nothing, now);
+    let on_break = context.server.life.on_break;
+    if on_break != OnBreak::Warn {
+        cut_off(context, poller, now);
     }
+    poller.broken = broken_by(on_break, &event, poller.broken);
     poller.notices.breaks = poller.notices.breaks.saturating_add(1);
     say(context, event);
-}
-
-/// The event of a publication that does not meet the last one.
-fn event_of_unmet(unmet: &Unmet) -> LogEvent
-    ensures { result ≡ event_of_unmet unmet.now }
-{
-    LogEvent::AssumptionBroken {
-        clock: unmet.clock,
-        lower: unmet.span.lo(),
-        upper: unmet.span.hi(),
-        last_lower: unmet.last.lo(),
-        last_upper: unmet.last.hi(),
-    }
 }
 
 /// Looks whether what a round shows meets the last publication.
@@ -333,17 +368,62 @@ fn compare<R: Wait + SystemClock + Files<File = File>>(
 )
     ensures same { poller.new.daemon ≡ poller.old.daemon }
     ensures wire { poller.new.polled.link.hearing.wire ≡ poller.old.polled.link.hearing.wire }
+    ensures shown { poller.new.shown ≡ poller.old.shown }
+    ensures broken { Compares context.entry.server.now.life.on_break context.entry.server.now.life.config.drift (seen_in poller.old.shown) (seen_in shown.now) poller.old.broken poller.new.broken }
     ensures totals { poller.new.totals ≡ poller.old.totals }
     ensures renewal { poller.new.renewal ≡ poller.old.renewal }
 {
     let drift = context.server.life.config.drift();
-    if let Some(unmet) = unmet_of(&poller.shown, shown, drift) {
-        break_off(context, poller, event_of_unmet(&unmet), now);
-        keep_break(context, &poller.last, published);
-    }
+    let Some(unmet) = unmet_of(&poller.shown, shown, drift) else {
+        return;
+    };
+    break_off(context, poller, event_of_unmet(&unmet), now);
+    keep_break(context, &poller.last, published);
 }
 
-/// Looks whether the host slept, and whether a guest was disrupted.
+/// Looks whether the host slept.
+fn look_at_sleep<R: Wait + SystemClock + HostClocks + Files<File = File>>(
+    context: ThreadContext<'_, R>,
+    poller: &mut Poller<'_, R>,
+    now: u64,
+)
+    ensures same { poller.new.daemon ≡ poller.old.daemon }
+    ensures wire { poller.new.polled.link.hearing.wire ≡ poller.old.polled.link.hearing.wire }
+    ensures totals { poller.new.totals ≡ poller.old.totals }
+    ensures renewal { poller.new.renewal ≡ poller.old.renewal }
+    ensures shown { poller.new.shown ≡ poller.old.shown }
+    ensures broken { MayBreak context.entry.server.now.life.on_break Slept poller.old.broken poller.new.broken }
+{
+    let Sleep::Slept(slept) = poller.host.sleep.look(context.rt) else {
+        return;
+    };
+    poller.notices.slept = poller.notices.slept.saturating_add(slept);
+    break_off(context, poller, LogEvent::HostSlept { slept }, now);
+}
+
+/// Looks whether a guest was disrupted.
+fn look_at_guest<R: Wait + SystemClock + HostClocks + Files<File = File>>(
+    context: ThreadContext<'_, R>,
+    poller: &mut Poller<'_, R>,
+    now: u64,
+)
+    ensures same { poller.new.daemon ≡ poller.old.daemon }
+    ensures wire { poller.new.polled.link.hearing.wire ≡ poller.old.polled.link.hearing.wire }
+    ensures totals { poller.new.totals ≡ poller.old.totals }
+    ensures renewal { poller.new.renewal ≡ poller.old.renewal }
+    ensures shown { poller.new.shown ≡ poller.old.shown }
+    ensures broken { MayBreak context.entry.server.now.life.on_break Disrupted poller.old.broken poller.new.broken }
+{
+    let Some(path) = poller.host.vmclock else {
+        return;
+    };
+    if !poller.host.guest.look(context.rt, path) {
+        return;
+    }
+    break_off(context, poller, LogEvent::GuestDisrupted, now);
+}
+
+/// Looks whether the host slept, and then whether a guest was disrupted.
 fn look_at_host<R: Wait + SystemClock + HostClocks + Files<File = File>>(
     context: ThreadContext<'_, R>,
     poller: &mut Poller<'_, R>,
@@ -353,22 +433,15 @@ fn look_at_host<R: Wait + SystemClock + HostClocks + Files<File = File>>(
     ensures wire { poller.new.polled.link.hearing.wire ≡ poller.old.polled.link.hearing.wire }
     ensures totals { poller.new.totals ≡ poller.old.totals }
     ensures renewal { poller.new.renewal ≡ poller.old.renewal }
+    ensures shown { poller.new.shown ≡ poller.old.shown }
+    ensures broken { LooksAtHost context.entry.server.now.life.on_break poller.old.broken poller.new.broken }
     ensures unseen { poller.new.notices.sleep_unseen ≡ poller.new.host.sleep }
 {
-    match poller.host.sleep.look(context.rt) {
-        Sleep::Awake => {}
-        Sleep::Slept(slept) => {
-            poller.notices.slept = poller.notices.slept.saturating_add(slept);
-            break_off(context, poller, LogEvent::HostSlept { slept }, now);
-        }
-        Sleep::Unseen => say(context, LogEvent::SleepUnseen),
-    }
-    if let Some(path) = poller.host.vmclock {
-        if poller.host.guest.look(context.rt, path) {
-            break_off(context, poller, LogEvent::GuestDisrupted, now);
-        }
-    }
-    poller.notices.sleep_unseen = poller.host.sleep.is_blind();
+    look_at_sleep(context, poller, now);
+    look_at_guest(context, poller, now);
+    let is_unseen = poller.host.sleep.is_blind();
+    say_some(context, sleep_event(poller.notices.sleep_unseen, is_unseen));
+    poller.notices.sleep_unseen = is_unseen;
 }
 
 /// Looks how fast `CLOCK_MONOTONIC` goes, if the machine's clock is another. It is logged when that clock begins to go faster or
@@ -379,6 +452,8 @@ fn look_at_slewed<R: Wait + SystemClock + HostClocks>(
 )
     ensures same { poller.new.daemon ≡ poller.old.daemon }
     ensures wire { poller.new.polled.link.hearing.wire ≡ poller.old.polled.link.hearing.wire }
+    ensures shown { poller.new.shown ≡ poller.old.shown }
+    ensures broken { poller.new.broken ≡ poller.old.broken }
     ensures totals { poller.new.totals ≡ poller.old.totals }
     ensures renewal { poller.new.renewal ≡ poller.old.renewal }
     ensures told { poller.new.notices.slewing ≡ poller.new.host.slew.slewing }
@@ -393,8 +468,46 @@ fn look_at_slewed<R: Wait + SystemClock + HostClocks>(
     }
 }
 
+/// Looks how wide a reading is before a round, when the clock shows `now`. It is logged if that is wider than `max_width`, so that
+/// sessions refuse, and when that is over.
+fn look_at_width<R: Wait + SystemClock>(
+    context: ThreadContext<'_, R>,
+    poller: &mut Poller<'_, R>,
+    now: u64,
+)
+    ensures same { poller.new.daemon ≡ poller.old.daemon }
+    ensures wire { poller.new.polled.link.hearing.wire ≡ poller.old.polled.link.hearing.wire }
+    ensures shown { poller.new.shown ≡ poller.old.shown }
+    ensures broken { poller.new.broken ≡ poller.old.broken }
+{
+    let life = &context.server.life;
+    let width = width_shown(&poller.shown, life.config.drift(), now);
+    let was_wide = poller.notices.troubles.wide;
+    say_some(context, width_event(was_wide, width, life.max_width));
+    poller.notices.troubles.wide = is_wide(width, life.max_width);
+}
+
+/// Looks whether the machine stood still before the end of a round, at which the clock shows `now`. It is logged.
+fn look_back<R: Wait + SystemClock>(
+    context: ThreadContext<'_, R>,
+    poller: &mut Poller<'_, R>,
+    now: u64,
+)
+    ensures same { poller.new.daemon ≡ poller.old.daemon }
+    ensures wire { poller.new.polled.link.hearing.wire ≡ poller.old.polled.link.hearing.wire }
+    ensures report { poller.new.report ≡ poller.old.report }
+    ensures shown { poller.new.shown ≡ poller.old.shown }
+    ensures broken { poller.new.broken ≡ poller.old.broken }
+{
+    let period = period_of(&context.server.life.pauses);
+    if let Some(event) = stood_still(poller.ended, now, poller.renewal, period) {
+        say(context, event);
+    }
+    poller.ended = Some(now);
+}
+
 /// Counts a round after which fewer than n - f sources have answered within three periods, and logs it once something is
-/// published.
+/// published, and when it is over.
 fn count_stale<R: Wait + SystemClock>(
     context: ThreadContext<'_, R>,
     poller: &mut Poller<'_, R>,
@@ -402,25 +515,50 @@ fn count_stale<R: Wait + SystemClock>(
 )
     ensures same { poller.new.daemon ≡ poller.old.daemon }
     ensures wire { poller.new.polled.link.hearing.wire ≡ poller.old.polled.link.hearing.wire }
+    ensures shown { poller.new.shown ≡ poller.old.shown }
+    ensures broken { poller.new.broken ≡ poller.old.broken }
     ensures totals { poller.new.totals ≡ poller.old.totals }
     ensures renewal { poller.new.renewal ≡ poller.old.renewal }
 {
     let life = &context.server.life;
     let config = &life.config;
     let period = period_of(&life.pauses);
-    if !is_stale(needed_by(&poller.notices.answers, config), period, now) {
-        return;
+    let is_stale = is_stale(needed_by(&poller.notices.answers, config), period, now);
+    if is_stale {
+        poller.notices.stale_rounds = poller.notices.stale_rounds.saturating_add(1);
     }
-    poller.notices.stale_rounds = poller.notices.stale_rounds.saturating_add(1);
-    if poller.totals.published > 0 {
-        say(
-            context,
-            LogEvent::SourcesStale {
-                answered: fresh_answers(&poller.notices.answers, config.sources(), period, now),
-                needed: (config.sources() - config.faulty()) as u64,
-            },
-        );
+    let was_told = poller.notices.troubles.stale;
+    let is_told = is_stale && poller.totals.published > 0;
+    let answered = fresh_answers(&poller.notices.answers, config.sources(), period, now);
+    let needed = (config.sources() - config.faulty()) as u64;
+    say_some(context, stale_event(was_told, is_told, answered, needed));
+    poller.notices.troubles.stale = is_told;
+}
+
+/// Logs which troubles are over with a round of these records: suspects that agree again, refused fusions and failed rounds.
+fn say_ends<R: Wait + SystemClock>(
+    context: ThreadContext<'_, R>,
+    poller: &mut Poller<'_, R>,
+    records: &RoundRecords,
+)
+    ensures same { poller.new.daemon ≡ poller.old.daemon }
+    ensures wire { poller.new.polled.link.hearing.wire ≡ poller.old.polled.link.hearing.wire }
+    ensures shown { poller.new.shown ≡ poller.old.shown }
+    ensures broken { poller.new.broken ≡ poller.old.broken }
+    ensures totals { poller.new.totals ≡ poller.old.totals }
+    ensures renewal { poller.new.renewal ≡ poller.old.renewal }
+{
+    let agreeing = agreeing_sources(&poller.shown, &records.shown);
+    for source in agreeing.as_slice() {
+        let source = u64::from(*source);
+        say(context, LogEvent::SourceAgrees { source });
     }
+    let outcome = &records.outcome;
+    let troubles = &mut poller.notices.troubles;
+    say_some(context, fusion_event(troubles.refused, outcome));
+    say_some(context, resumed_event(troubles.failed, outcome));
+    troubles.refused = is_refused_after(troubles.refused, outcome);
+    troubles.failed = has_failed_after(troubles.failed, outcome);
 }
 
 /// Hands on the records of a round: logs its events and shares its publication when the clock shows `now`, and keeps what
@@ -431,9 +569,11 @@ fn hand_on<R: Wait + SystemClock + Files<File = File>>(
     records: RoundRecords,
     now: u64,
 )
-    requires in_range { records.events.count ≤ 50 }
+    requires in_range { records.events.count ≤ 66 }
     ensures same { poller.new.daemon ≡ poller.old.daemon }
     ensures wire { poller.new.polled.link.hearing.wire ≡ poller.old.polled.link.hearing.wire }
+    ensures shown { seen_in poller.new.shown ≡ last_with (seen_in poller.old.shown) (seen_in records.shown) }
+    ensures broken { poller.new.broken ≡ poller.old.broken }
     ensures totals { poller.new.totals ≡ records.totals }
     ensures renewal { poller.new.renewal ≡ renewal_after records.link_failed poller.old.renewal }
 {
@@ -443,12 +583,13 @@ fn hand_on<R: Wait + SystemClock + Files<File = File>>(
         shown,
         span,
         link_failed,
+        outcome: _,
     } = records;
     for event in events.as_slice() {
         say(context, *event);
     }
     if let Some(span) = span {
-        if !poller.broken {
+        if poller.broken.is_none() {
             let span = shared_by(&span, &poller.host.base, &context.server.life);
             poller.share.put(context.rt, &span, now);
         }
@@ -463,6 +604,26 @@ fn hand_on<R: Wait + SystemClock + Files<File = File>>(
     }
 }
 
+/// Notes what a round published, and hands on its evidence.
+fn note_published<R: Wait + SystemClock>(
+    context: ThreadContext<'_, R>,
+    poller: &mut Poller<'_, R>,
+    published: Option<Fused>,
+)
+    ensures same { poller.new.daemon ≡ poller.old.daemon }
+    ensures wire { poller.new.polled.link.hearing.wire ≡ poller.old.polled.link.hearing.wire }
+    ensures shown { poller.new.shown ≡ poller.old.shown }
+    ensures broken { poller.new.broken ≡ poller.old.broken }
+{
+    let Some(fused) = published else {
+        return;
+    };
+    poller.notices.measure(&fused.span());
+    poller.notices.track(&poller.report.sources, &fused);
+    show_evidence(context, &fused);
+    poller.last = Some(fused);
+}
+
 /// Does all that follows a round, except the pause, when the clock shows `now`. What breaks an assumption is noticed
 /// first.
 fn settle<R: Wait + SystemClock + HostClocks + Files<File = File>>(
@@ -473,7 +634,10 @@ fn settle<R: Wait + SystemClock + HostClocks + Files<File = File>>(
 )
     ensures same { poller.new.daemon ≡ poller.old.daemon }
     ensures wire { poller.new.polled.link.hearing.wire ≡ poller.old.polled.link.hearing.wire }
+    ensures shown { seen_in poller.new.shown ≡ last_with (seen_in poller.old.shown) (came_in did.now poller.old.report.fusion) }
+    ensures broken { Settles context.entry.server.now.life.on_break context.entry.server.now.life.config.drift (seen_in poller.old.shown) (came_in did.now poller.old.report.fusion) poller.old.broken poller.new.broken }
 {
+    look_back(context, poller, now);
     poller.notices.hear(&poller.report.sources);
     let unsent = unsent_by(&poller.polled.link);
     let records = records(context, poller, did, unsent);
@@ -482,14 +646,10 @@ fn settle<R: Wait + SystemClock + HostClocks + Files<File = File>>(
     look_at_host(context, poller, now);
     look_at_slewed(context, poller);
     poller.unsent = unsent;
+    say_ends(context, poller, &records);
     hand_on(context, poller, records, now);
     count_stale(context, poller, now);
-    if let Some(fused) = published {
-        poller.notices.measure(&fused.span());
-        poller.notices.track(&poller.report.sources, &fused);
-        show_evidence(context, &fused);
-        poller.last = Some(fused);
-    }
+    note_published(context, poller, published);
 }
 
 /// Hands the status to the reporter. It is logged once if a try to write the shared file hangs.
@@ -511,7 +671,8 @@ fn show<R: Wait + SystemClock + Files<File = File>>(
         config: server.life.config,
         known: poller.daemon.known() as u64,
         sharing: poller.share.is_written(now),
-        broken_lives: server.broken_lives,
+        broken_lives: breaks_recorded(server.last_break),
+        last_break: moment_recorded(server.last_break),
     };
     let account = Account {
         totals: &poller.totals,
@@ -535,10 +696,12 @@ fn go_round<R: Wait + SystemClock + HostClocks + Files<File = File>>(
     ensures call { MakesCall (kept_with poller.old.daemon teller.old.items) (kept_with poller.new.daemon teller.new.items) clock.old.last clock.new.last }
     ensures source { teller.new.source ≡ teller.old.source }
     ensures wire { poller.new.polled.link.hearing.wire ≡ poller.old.polled.link.hearing.wire }
+    ensures breaks { GoesRound context.entry.server.now.life.on_break context.entry.server.now.life.config.drift (map fused_span_of teller.old.items) (map fused_span_of teller.new.items) (seen_in poller.old.shown) (seen_in poller.new.shown) poller.old.broken poller.new.broken }
 {
     let server = context.server;
     hear_names(context, poller);
     server.reporter.busy(now_of(clock).max(1));
+    look_at_width(context, poller, clock.last());
     let did = round(context, poller, clock, teller);
     server.reporter.idle();
     settle(context, poller, &did, clock.last());
@@ -551,6 +714,8 @@ fn go_round<R: Wait + SystemClock + HostClocks + Files<File = File>>(
 fn renew<R: Wait + SystemClock + Net>(context: ThreadContext<'_, R>, poller: &mut Poller<'_, R>)
     ensures same { poller.new.daemon ≡ poller.old.daemon }
     ensures wire { poller.new.polled.link.hearing.wire ≡ poller.old.polled.link.hearing.wire }
+    ensures shown { poller.new.shown ≡ poller.old.shown }
+    ensures broken { poller.new.broken ≡ poller.old.broken }
 {
     if poller.renewal == 0 {
         return;
@@ -577,9 +742,11 @@ fn end<R: Wait + SystemClock + Files<File = File>>(
 )
     ensures same { poller.new.daemon ≡ poller.old.daemon }
     ensures wire { poller.new.polled.link.hearing.wire ≡ poller.old.polled.link.hearing.wire }
+    ensures shown { poller.new.shown ≡ poller.old.shown }
+    ensures broken { poller.new.broken ≡ poller.old.broken }
     ensures rises { clock.old.last ≤ clock.new.last }
 {
-    if poller.broken {
+    if poller.broken.is_some() {
         return;
     }
     let now = now_of(clock);
@@ -596,6 +763,8 @@ pub(crate) fn run_daemon<R: Wait + SystemClock + HostClocks + Files<File = File>
     teller: &mut Teller,
 )
     requires nothing { teller.old.items ≡ [] }
+    requires none_shown { poller.old.shown ≡ None }
+    requires unbroken { poller.old.broken ≡ None }
     // The rounds were calls one after another, and what they left of the daemon and the publications is what there is.
     // No reading of the clock in them is below one before it.
     ensures calls { (calls : List RoundsCall) × AreInTurn (record { daemon = poller.old.daemon; published = [] }) calls
@@ -603,6 +772,8 @@ pub(crate) fn run_daemon<R: Wait + SystemClock + HostClocks + Files<File = File>
         × RiseIn clock.old.last calls clock.new.last }
     ensures source { teller.new.source ≡ teller.old.source }
     ensures wire { poller.new.polled.link.hearing.wire ≡ poller.old.polled.link.hearing.wire }
+    // Each publication met the one before it, or it was the last, and the life ends because of that.
+    ensures breaks { EndsBy context.entry.server.now.life.on_break context.entry.server.now.life.config.drift (map fused_span_of teller.new.items) poller.new.broken }
 {
     let (rt, server) = (context.rt, context.server);
     let began = now_of(clock);
@@ -610,11 +781,11 @@ pub(crate) fn run_daemon<R: Wait + SystemClock + HostClocks + Files<File = File>
     look_at_slewed(context, poller);
     for _ in rt.forever() {
         go_round(context, poller, clock, teller);
-        if !poller.broken {
+        if poller.broken.is_none() {
             let waits = waits_on(&poller.totals, began, clock.last());
             server.rest(rt, pause_of(poller.renewal, waits, server.life.pauses.poll));
         }
-        if poller.broken || server.has_ended() {
+        if poller.broken.is_some() || server.has_ended() {
             end(context, poller, clock);
             return;
         }

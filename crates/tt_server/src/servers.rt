@@ -1,12 +1,17 @@
 //! Runs a machine: starts its threads, and ends them in order.
 
-ghost use Rattle.std.specs.Prelude.{◌≡◌, ◌<◌, ◌≤◌, ◌+◌, [], All, IfOk, IfSome, IsTrue, Ok, vec_len, vec_capacity};
+ghost use Rattle.std.specs.Prelude.{◌≡◌, ◌<◌, ◌≤◌, ◌+◌, ◌↔◌, [], All, map, IfOk, IfSome, IsSome, IsTrue, Ok, vec_len, vec_capacity};
+ghost use Rattle.std.specs.List.{range_with_len};
 ghost use mathlib.Core.List.{IsPrefix};
 ghost use Rattle.tt_epoch.specs.Course.{Takes, Reads};
+ghost use Rattle.tt_node.specs.Sharing.{AllDown};
 ghost use Rattle.tt_publish.specs.Known.{new_watch};
-ghost use Rattle.tt_server.specs.Life.{ServerLife, HandsBack, TellsOf};
+ghost use Rattle.tt_publish.specs.Reading.{fused_span_of};
+ghost use Rattle.tt_stamp.specs.Stamping.{new_seat};
+ghost use Rattle.tt_server.specs.Break.{EndsBy};
+ghost use Rattle.tt_server.specs.Life.{ServerLife, HandShares, TellsOf};
 ghost use Rattle.tt_server.specs.Round.{side_workers_of};
-ghost use Rattle.tt_server.specs.Thread.{AreReady, HasSettings, IsServing, terms_in};
+ghost use Rattle.tt_server.specs.Thread.{AreNewSeats, AreReady, HasSettings, ServesAt, terms_in};
 
 use crate::breaks::{pause_after_breaks, record_break};
 use crate::descriptors::{needed_descriptors, room_of, sessions_within};
@@ -23,7 +28,7 @@ use crate::starts::{
     shows_evidence, side_of, sights_of, watch_all,
 };
 use crate::states::{Ending, Life, ServerState, ThreadContext, say};
-use crate::workers::{WorkerHandle, WorkerSeat, start_worker, worker_seats_of};
+use crate::workers::{WorkerHandle, start_worker, worker_seat_of};
 use mio::Waker;
 use std::alloc::Global;
 use std::io::{Input, Read};
@@ -53,10 +58,11 @@ fn side_workers_of(workers: usize, has_socket: bool) -> usize
     if has_socket { workers / 2 } else { 0 }
 }
 
-/// What the workers own, as many of each as there are workers.
+/// What the workers own, as many of each as there are workers, and the sequencer that they share.
 #[derive(Drop)]
 struct Posts<'a> {
-    worker_seats: Vec<WorkerSeat<'a>>,
+    sequencer: &'a Sequencer,
+    seats: Vec<Seat>,
     watches: Vec<Watch>,
     sights: Vec<Sight>,
 }
@@ -67,9 +73,9 @@ struct Joins {
     most: usize,
     handles: Vec<WorkerHandle>,
     ends: Vec<WorkerEnd>,
-    ghost no_handle: { vec_len handles ≡ 0 },
+    ghost no_handle: { handles.items ≡ [] },
     ghost handle_room: { most ≤ vec_capacity handles },
-    ghost no_end: { vec_len ends ≡ 0 },
+    ghost no_end: { ends.items ≡ [] },
     ghost end_room: { most ≤ vec_capacity ends },
 }
 
@@ -92,8 +98,8 @@ impl Joins {
     }
 }
 
-/// Starts the threads of all workers. Answers whether all were started. Each watch is a new one of the teller that told
-/// `_opened`.
+/// Starts the threads of all workers, from the last seat to the first. Answers whether all were started. Each watch is a new one
+/// of the teller that told `_opened`.
 fn start_workers<'s, E, R: Wait + SystemClock + Sync>(
     scope: &Scope<'s, E>,
     context: ThreadContext<'s, R>,
@@ -101,26 +107,26 @@ fn start_workers<'s, E, R: Wait + SystemClock + Sync>(
     handles: &mut Vec<WorkerHandle>,
     _opened: &Told,
 ) -> bool
-    requires none { vec_len handles.old ≡ 0 }
+    requires none { handles.old.items ≡ [] }
     requires room { vec_len posts.watches ≤ vec_capacity handles.old }
+    requires one_each { vec_len posts.seats ≡ vec_len posts.watches }
+    requires seats { AreNewSeats posts.sequencer.now (vec_len posts.watches) posts.seats.items }
     requires watches { All (λ watch. watch ≡ new_watch _opened.now.source context.server.now.life.config.drift) posts.watches.items }
     ensures all { IsTrue result → vec_len handles.new ≡ vec_len posts.entry.watches }
     ensures some { vec_len handles.new ≤ vec_len posts.entry.watches }
-    ensures each { All (λ handle. IsServing (new_watch _opened.now.source context.entry.server.now.life.config.drift) (terms_in context.entry.server.now.life) handle.promise) handles.new.items }
+    ensures each { AllDown (λ number handle. ServesAt (new_watch _opened.now.source context.entry.server.now.life.config.drift) (terms_in context.entry.server.now.life) posts.entry.sequencer.now (vec_len posts.entry.watches) number handle.promise) (vec_len posts.entry.watches) handles.new.items }
 {
     let Posts {
-        mut worker_seats,
+        sequencer,
+        mut seats,
         mut watches,
         mut sights,
     } = posts;
     let listeners = context.server.listeners;
     let side = side_workers_of(watches.len(), listeners.side.is_some());
     for number in 0..watches.len() {
-        let (Some(worker_seat), Some(watch), Some(sight)) = (
-            worker_seats.pop(),
-            watches.pop(),
-            sights.pop(),
-        ) else {
+        let (Some(seat), Some(watch), Some(sight)) = (seats.pop(), watches.pop(), sights.pop())
+        else {
             return false;
         };
         let (backlog, place) = match &listeners.side {
@@ -130,6 +136,7 @@ fn start_workers<'s, E, R: Wait + SystemClock + Sync>(
         let Some(inbox) = backlog.inbox(place) else {
             return false;
         };
+        let worker_seat = worker_seat_of(seat, sequencer);
         let Some(handle) = start_worker(scope, context, backlog, inbox, worker_seat, watch, sight)
         else {
             return false;
@@ -139,29 +146,47 @@ fn start_workers<'s, E, R: Wait + SystemClock + Sync>(
     true
 }
 
-/// Joins the workers that were started in this life. Answers how each ended. Each began with a new watch of the teller
-/// that told `_opened`.
+/// Joins all workers of this life, from the one that was started last to the one that was started first, and joins their seats.
+/// Answers how each ended, in the order of the seats; None if there is none. Each began with a new watch of the teller that told
+/// `_opened`.
 fn join_workers<R: Threads>(
     rt: &R,
+    sequencer: &Sequencer,
     handles: Vec<WorkerHandle>,
     ends: Vec<WorkerEnd>,
     _opened: &Told,
     _life: &Life,
-) -> Vec<WorkerEnd>
-    requires none { vec_len ends ≡ 0 }
+) -> Option<Vec<WorkerEnd>>
+    requires none { ends.items ≡ [] }
     requires room { vec_len handles ≤ vec_capacity ends }
-    requires each { All (λ handle. IsServing (new_watch _opened.now.source _life.now.config.drift) (terms_in _life.now) handle.promise) handles.items }
-    ensures all { vec_len result ≡ vec_len handles }
-    ensures each { All (HandsBack (new_watch _opened.now.source _life.now.config.drift) (terms_in _life.now)) result.items }
+    requires each { AllDown (λ number handle. ServesAt (new_watch _opened.now.source _life.now.config.drift) (terms_in _life.now) sequencer.now (vec_len handles) number handle.promise) (vec_len handles) handles.items }
+    ensures all { IfSome result (λ ends. vec_len ends ≡ vec_len handles) }
+    ensures some { IsSome result ↔ (0 < vec_len handles) }
+    ensures shares { IfSome result (λ ends. HandShares (new_watch _opened.now.source _life.now.config.drift) (terms_in _life.now) ends.items) }
 {
     let (mut handles, mut ends) = (handles, ends);
+    let (end, mut all) = handles.pop()?.join(rt);
+    all.laws();
+    ends.push_reserved(end);
     for _ in 0..handles.len() {
         let Some(handle) = handles.pop() else {
-            return ends;
+            return None;
         };
-        ends.push_reserved(handle.join(rt));
+        let (end, seat) = handle.join(rt);
+        ends.push_reserved(end);
+        all = sequencer.join(all, seat);
     }
-    ends
+    Some(ends)
+}
+
+/// Joins the workers that were started, in a life in which some were not.
+fn drop_workers<R: Threads>(rt: &R, handles: Vec<WorkerHandle>) {
+    let mut handles = handles;
+    for _ in 0..handles.len() {
+        if let Some(handle) = handles.pop() {
+            drop(handle.join(rt));
+        }
+    }
 }
 
 /// Whether the workers read nothing but these publications.
@@ -266,12 +291,14 @@ fn start_all<'s, E, R: ServerHost>(
     names: Option<Names>,
     until_eof: bool,
 ) -> bool
-    requires none { vec_len handles.old ≡ 0 }
+    requires none { handles.old.items ≡ [] }
     requires room { vec_len posts.watches ≤ vec_capacity handles.old }
+    requires one_each { vec_len posts.seats ≡ vec_len posts.watches }
+    requires seats { AreNewSeats posts.sequencer.now (vec_len posts.watches) posts.seats.items }
     requires watches { All (λ watch. watch ≡ new_watch opened.now.source context.server.now.life.config.drift) posts.watches.items }
     ensures all { IsTrue result → vec_len handles.new ≡ vec_len posts.entry.watches }
     ensures some { vec_len handles.new ≤ vec_len posts.entry.watches }
-    ensures each { All (λ handle. IsServing (new_watch opened.now.source context.entry.server.now.life.config.drift) (terms_in context.entry.server.now.life) handle.promise) handles.new.items }
+    ensures each { AllDown (λ number handle. ServesAt (new_watch opened.now.source context.entry.server.now.life.config.drift) (terms_in context.entry.server.now.life) posts.entry.sequencer.now (vec_len posts.entry.watches) number handle.promise) (vec_len posts.entry.watches) handles.new.items }
 {
     if !start_workers(scope, context, posts, handles, opened) {
         return false;
@@ -308,7 +335,7 @@ fn run_threads<'s, E, R: ServerHost>(
 ) -> Result<LifeEnd, ServerFault>
     requires nothing { teller.old.items ≡ [] }
     requires meant { HasSettings settings.now context.server.now.life }
-    requires ready { AreReady settings.now teller.old.source parts.posts.watches.items parts.joins.most }
+    requires ready { AreReady settings.now teller.old.source parts.posts.watches.items parts.posts.sequencer.now parts.posts.seats.items parts.joins.most }
     ensures epoch { IfOk result (λ end. end.epoch ≡ context.entry.server.now.life.epoch) }
     ensures life { IfOk result (λ end. (life : ServerLife) × TellsOf settings.now end life) }
 {
@@ -337,6 +364,7 @@ fn run_threads<'s, E, R: ServerHost>(
         names,
     } = polling;
     let polled = Polled { link, reach, table };
+    let sequencer = posts.sequencer;
     let mut poller = poller_of(context, settings, polled, share);
     if !start_all(
         scope,
@@ -349,7 +377,7 @@ fn run_threads<'s, E, R: ServerHost>(
         until_eof,
     ) {
         server.end();
-        drop(join_workers(rt, handles, ends, &opened, &server.life));
+        drop_workers(rt, handles);
         return Err(ServerFault::NoThread);
     }
     say_started(context, settings.listen());
@@ -357,9 +385,12 @@ fn run_threads<'s, E, R: ServerHost>(
     run_daemon(context, &mut poller, &mut clock, teller);
     server.end();
     poller.end_names();
-    let workers = join_workers(rt, handles, ends, &opened, &server.life);
+    let joined = join_workers(rt, sequencer, handles, ends, &opened, &server.life);
     poller.end_sharing(rt);
     let published = teller.tell();
+    let Some(workers) = joined else {
+        return Err(ServerFault::Memory);
+    };
     // The answer is always yes: a watch sees only what its teller shows, and the daemon has ended. But of a watch the
     // proofs know only that it reads publications of this teller's source.
     if !read_published(&workers, &published) {
@@ -369,7 +400,7 @@ fn run_threads<'s, E, R: ServerHost>(
         epoch: server.life.epoch,
         published,
         workers,
-        broken: poller.has_broken(),
+        broken: poller.broken(),
     })
 }
 
@@ -383,7 +414,7 @@ fn run<'n, R: ServerHost>(
 ) -> Result<LifeEnd, ServerFault>
     requires nothing { teller.old.items ≡ [] }
     requires meant { HasSettings settings.now context.server.now.life }
-    requires ready { AreReady settings.now teller.old.source parts.posts.watches.items parts.joins.most }
+    requires ready { AreReady settings.now teller.old.source parts.posts.watches.items parts.posts.sequencer.now parts.posts.seats.items parts.joins.most }
     ensures epoch { IfOk result (λ end. end.epoch ≡ context.entry.server.now.life.epoch) }
     ensures life { IfOk result (λ end. (life : ServerLife) × TellsOf settings.now end life) }
 {
@@ -393,7 +424,7 @@ fn run<'n, R: ServerHost>(
         rt,
         move |scope| -> Result<LifeEnd, ServerFault>
             requires { (lent.now.items ≡ []) × HasSettings settings.now context.server.now.life
-                × AreReady settings.now lent.now.source parts.posts.watches.items parts.joins.most }
+                × AreReady settings.now lent.now.source parts.posts.watches.items parts.posts.sequencer.now parts.posts.seats.items parts.joins.most }
             ensures { IfOk result (λ end. end.epoch ≡ context.entry.server.now.life.epoch)
                 × IfOk result (λ end. (life : ServerLife) × TellsOf settings.entry.now end life) }
         { run_threads(scope, context, settings, parts, lent, until_eof) },
@@ -454,7 +485,7 @@ fn run_life<'n, R: ServerHost, S: Store>(
     teller: &mut Teller,
 ) -> Result<LifeEnd, ServerFault>
     requires nothing { teller.old.items ≡ [] }
-    requires ready { AreReady start.settings.now teller.old.source parts.posts.watches.items parts.joins.most }
+    requires ready { AreReady start.settings.now teller.old.source parts.posts.watches.items parts.posts.sequencer.now parts.posts.seats.items parts.joins.most }
     // The epoch of the life is the one that the store gave.
     ensures epoch { IfOk result (λ end. Takes S.does Reads store.old store.new (Ok end.epoch)) }
     ensures life { IfOk result (λ end. (life : ServerLife) × TellsOf start.entry.settings.now end life) }
@@ -472,7 +503,7 @@ fn run_life<'n, R: ServerHost, S: Store>(
     let Some(ending) = Ending::shared(alloc, waker) else {
         return Err(ServerFault::Memory);
     };
-    let broken_lives = pause_after_breaks(rt, alloc, &reporter, settings.state());
+    let last_break = pause_after_breaks(rt, alloc, &reporter, settings.state());
     let epoch = match next_epoch(store) {
         Ok(epoch) => epoch,
         Err(fault) => return Err(ServerFault::Epoch(fault)),
@@ -480,14 +511,7 @@ fn run_life<'n, R: ServerHost, S: Store>(
     let life = Life::of(settings, epoch);
     reporter.watch_for(life.pauses.wait.saturating_add(SLOW));
     let has_evidence = shows_evidence(settings);
-    let server = ServerState::new(
-        life,
-        listeners,
-        reporter,
-        has_evidence,
-        broken_lives,
-        ending,
-    );
+    let server = ServerState::new(life, listeners, reporter, has_evidence, last_break, ending);
     let context = ThreadContext {
         rt,
         alloc,
@@ -497,15 +521,15 @@ fn run_life<'n, R: ServerHost, S: Store>(
     say_descriptors(context, limit);
     let ended = run(context, settings, parts, teller, until_eof);
     if let Ok(end) = &ended {
-        if end.broken {
-            record_break(rt, alloc, settings.state());
+        if let Some(reason) = end.broken {
+            record_break(rt, alloc, settings.state(), reason);
         }
     }
     server.reporter.end(rt);
     ended
 }
 
-/// What the workers own, over seats of this sequencer, room for their threads, and the publications, none so far.
+/// What the workers own, over the seats of this new sequencer, room for their threads, and the publications, none so far.
 fn posts_of<'a, R: Net + Wait>(
     rt: &R,
     alloc: Global,
@@ -513,21 +537,19 @@ fn posts_of<'a, R: Net + Wait>(
     sequencer: &'a Sequencer,
     seats: Vec<Seat>,
 ) -> Result<(Posts<'a>, Joins, Teller), ServerFault>
-    requires seats { All (λ seat. seat.table ≡ sequencer.now) seats.items }
+    requires opened { seats.items ≡ map (new_seat sequencer.now settings.now.config.workers) (range_with_len 0 settings.now.config.workers) }
     ensures nothing { IfOk result (λ made. made.2.items ≡ []) }
-    ensures ready { IfOk result (λ made. AreReady settings.now made.2.source made.0.watches.items made.1.most) }
+    ensures ready { IfOk result (λ made. AreReady settings.now made.2.source made.0.watches.items made.0.sequencer.now made.0.seats.items made.1.most) }
 {
     let workers = settings.config().workers();
-    let Some(worker_seats) = worker_seats_of(alloc, sequencer, seats) else {
-        return Err(ServerFault::Memory);
-    };
     let sights = sights_of(rt, alloc, workers)?;
     let Some(joins) = Joins::new(alloc, workers) else {
         return Err(ServerFault::Memory);
     };
     let (teller, watches) = publications_of(rt, alloc, settings)?;
     let posts = Posts {
-        worker_seats,
+        sequencer,
+        seats,
         watches,
         sights,
     };
@@ -670,18 +692,24 @@ fn serve_opened<'n, 'e, R: ServerHost>(
 ///
 /// It also ends once it knows that an assumption is broken, unless the settings say that this is only logged: from then on
 /// no session is given a reading, a stamp or a release, and the shared file says that nothing is published. The break is
-/// recorded in the folder of the state, and [`LifeEnd::broken`] says so.
+/// recorded in the folder of the state, and [`LifeEnd::broken`] says why. Each publication meets the one before it, but for
+/// the last one of a life that a break ended. If there is no more than this sign, the reason is [`Unmet`](tt_status::BreakReason::Unmet),
+/// and with that reason the last publication does not meet the one before it.
 ///
 /// At the end it wakes all threads, whatever they wait for, joins the workers, and removes the Unix socket if it is still
 /// the one that it made. Then it answers the epoch of the life, what its daemon published, and what each worker had seen
 /// of that. In contracts this is the end of a life with these settings: its daemon began new, its calls came one after the
-/// other, and its workers read nothing but what it published; all that a worker did was turns of its sessions.
+/// other, and its workers read nothing but what it published; all that a worker did was turns of its sessions, and what all
+/// workers have stamped is one legal history of one sequencer.
 pub fn serve<R: ServerHost>(
     rt: &R,
     settings: &Settings,
     until_eof: bool,
 ) -> Result<LifeEnd, ServerFault>
     ensures life { IfOk result (λ end. (life : ServerLife) × TellsOf settings.now end life) }
+    // Each publication meets the one before it, but for the last one of a life that a break ended. If it ended by that
+    // alone, `broken` says so. Where the settings say that a break is only logged, none ends a life.
+    ensures breaks { IfOk result (λ end. EndsBy settings.now.on_break settings.now.config.drift (map fused_span_of end.published.items) end.broken) }
 {
     let alloc = rt.alloc();
     let opened = open_all(rt, alloc, settings)?;

@@ -1,6 +1,6 @@
 //! The parts of a machine, each made before its threads start.
 
-ghost use Rattle.std.specs.Prelude.{◌≡◌, ◌≢◌, ◌<◌, [], vec_len, All, IfOk};
+ghost use Rattle.std.specs.Prelude.{◌≡◌, ◌≢◌, ◌<◌, [], vec_len, All, IfOk, None};
 ghost use Rattle.std.specs.declared.io.ErrorKind.TheVariants.{OutOfMemory};
 ghost use Rattle.tt_daemon.specs.Config.{IsConfiguration};
 ghost use Rattle.tt_daemon.specs.Daemon.{new_daemon};
@@ -12,7 +12,7 @@ use crate::rounds::{Polled, Poller};
 use crate::sharers::Shares;
 use crate::states::ThreadContext;
 use mio::Waker;
-use std::alloc::Global;
+use std::alloc::{AllocError, Global};
 use std::fs::Files;
 use std::io::{Eprint, ErrorKind};
 use std::net::{Net, TcpListener, TcpStream};
@@ -24,7 +24,7 @@ use tt_daemon::Daemon;
 use tt_files::Reason;
 use tt_pages::Limits;
 use tt_publish::{Teller, Watch, open};
-use tt_report::{Disk, Pages, Reporter, ReporterFault};
+use tt_report::{Addresses, Disk, Journal, Pages, Reporter, ReporterFault};
 use tt_settings::{Settings, is_loopback};
 
 /// The acceptor of connections, and what ends its waits.
@@ -192,6 +192,15 @@ fn fault_of_reporter(fault: ReporterFault) -> ServerFault {
     }
 }
 
+/// The addresses of the sources, as the settings have them.
+fn addresses_of(alloc: Global, settings: &Settings) -> Result<Addresses, AllocError> {
+    let mut texts = Vec::new(alloc);
+    for master in settings.masters() {
+        texts.push(String::from_str(alloc, master.address().as_str())?)?;
+    }
+    Ok(Addresses::new(texts))
+}
+
 /// The reporter, which gives pages if there is an address for them. Its threads are started here.
 pub(crate) fn reporter_of<R>(
     rt: &R,
@@ -200,7 +209,7 @@ pub(crate) fn reporter_of<R>(
     pages: Option<Pages>,
 ) -> Result<Reporter, ServerFault>
 where
-    R: Threads + Wait + SystemClock + Eprint + Disk + Net + Copy + Send + 'static,
+    R: Threads + Wait + SystemClock + Eprint + Disk + Journal + Net + Copy + Send + 'static,
 {
     let path = match settings.status() {
         Some(path) => Some(path.as_str()),
@@ -210,7 +219,11 @@ where
         Some(path) => Some(path.as_str()),
         None => None,
     };
-    let mut reporter = match Reporter::start(rt, alloc, settings.log(), path, evidence) {
+    let Ok(addresses) = addresses_of(alloc, settings) else {
+        return Err(ServerFault::Memory);
+    };
+    let form = settings.log();
+    let mut reporter = match Reporter::start(rt, alloc, form, path, evidence, addresses) {
         Ok(reporter) => reporter,
         Err(fault) => return Err(fault_of_reporter(fault)),
     };
@@ -249,6 +262,8 @@ pub(crate) fn poller_of<'a, R>(
     requires first { 0 < context.server.now.life.epoch }
     ensures daemon { result.daemon ≡ new_daemon settings.now.machine context.entry.server.now.life.config context.entry.server.now.life.epoch }
     ensures configured { IsConfiguration context.entry.server.now.life.config }
+    ensures shown { result.shown ≡ None }
+    ensures broken { result.broken ≡ None }
 {
     let server = context.server;
     let daemon = Daemon::new(settings.machine(), &server.life.config, server.life.epoch);

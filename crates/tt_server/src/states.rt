@@ -11,6 +11,7 @@ use std::thread::Parker;
 use std::time::{Clock as SystemClock, Duration};
 use tt_connections::{Counts, Listeners, Terms, WAIT_BOUNDS};
 use tt_daemon::Config;
+use tt_health::BreakRecord;
 use tt_host::HostClock;
 use tt_report::Reporter;
 use tt_settings::{OnBreak, Pauses, Settings};
@@ -103,8 +104,8 @@ pub(crate) struct ServerState<'a> {
     pub(crate) reporter: Reporter,
     /// Whether the settings name a file or pages for the evidence.
     pub(crate) has_evidence: bool,
-    /// How many lives before this one ended by a break, as recorded at the start.
-    pub(crate) broken_lives: u64,
+    /// What was recorded of the last break, at the start.
+    pub(crate) last_break: Option<BreakRecord>,
     /// Makes the pauses of the daemon, and ends them at the end of the machine.
     pub(crate) ending: Arc<Ending, Global>,
 }
@@ -146,11 +147,11 @@ impl<'a> ServerState<'a> {
         listeners: &'a Listeners,
         reporter: Reporter,
         has_evidence: bool,
-        broken_lives: u64,
+        last_break: Option<BreakRecord>,
         ending: Arc<Ending, Global>,
     ) -> ServerState<'a>
         ensures life { result.life ≡ life }
-        ensures broken_lives { result.broken_lives ≡ broken_lives }
+        ensures last_break { result.last_break ≡ last_break }
     {
         ServerState {
             life,
@@ -158,7 +159,7 @@ impl<'a> ServerState<'a> {
             counts: Counts::new(),
             reporter,
             has_evidence,
-            broken_lives,
+            last_break,
             ending,
         }
     }
@@ -220,4 +221,14 @@ impl<'a, R> Copy for ThreadContext<'a, R> {}
 /// Hands an event to the reporter, which logs it. It does not wait.
 pub(crate) fn say<R: Wait + SystemClock>(context: ThreadContext<'_, R>, event: LogEvent) {
     context.server.reporter.log(context.rt, event);
+}
+
+/// Logs an event, if there is one.
+pub(crate) fn say_some<R: Wait + SystemClock>(
+    context: ThreadContext<'_, R>,
+    event: Option<LogEvent>,
+) {
+    if let Some(event) = event {
+        say(context, event);
+    }
 }

@@ -1,6 +1,6 @@
 //! The threads of the workers: each serves its sessions by turns.
 
-ghost use Rattle.std.specs.Prelude.{◌≡◌, All, IfSome};
+ghost use Rattle.std.specs.Prelude.{◌≡◌, IfSome};
 ghost use Rattle.tt_server.specs.Life.{HandsBack};
 ghost use Rattle.tt_server.specs.Thread.{IsServing, terms_in};
 
@@ -25,51 +25,33 @@ pub(crate) struct WorkerSeat<'a> {
     ghost of_it: { seat.table ≡ sequencer.now },
 }
 
-/// What the thread of a worker does: it serves sessions by turns, with this watch and these terms.
+/// What the thread of a worker does: it serves sessions by turns, with this watch, these terms and this seat. It hands the seat
+/// back.
 #[derive(Drop)]
 pub(crate) struct ServesClients {
     watch: Snapshot<Watch>,
     terms: Terms,
+    seat: Snapshot<Seat>,
 }
 
-impl Promise<WorkerEnd> for ServesClients {
+impl Promise<(WorkerEnd, Seat)> for ServesClients {
     ghost use Rattle.tt_server.specs.Life.{HandsBack};
 
-    ghost kept_by = { λ p end. HandsBack p.watch.value p.terms end };
+    ghost kept_by = { λ p result. HandsBack p.watch.value p.terms p.seat.value result.0 result.1 };
 }
 
 /// The thread of a worker.
-pub(crate) type WorkerHandle = PromisedHandle<WorkerEnd, ServesClients>;
+pub(crate) type WorkerHandle = PromisedHandle<(WorkerEnd, Seat), ServesClients>;
 
 /// A seat with its sequencer.
-fn worker_seat_of<'a>(seat: Seat, sequencer: &'a Sequencer) -> WorkerSeat<'a>
+pub(crate) fn worker_seat_of<'a>(seat: Seat, sequencer: &'a Sequencer) -> WorkerSeat<'a>
     requires { seat.table ≡ sequencer.now }
+    ensures { result.seat ≡ seat }
 {
     WorkerSeat { seat, sequencer }
 }
 
-/// All seats, each with its sequencer. None if it is out of memory.
-pub(crate) fn worker_seats_of<'a>(
-    alloc: Global,
-    sequencer: &'a Sequencer,
-    seats: Vec<Seat>,
-) -> Option<Vec<WorkerSeat<'a>>>
-    requires { All (λ seat. seat.table ≡ sequencer.now) seats.items }
-{
-    let mut seats = seats;
-    let Ok(mut worker_seats) = Vec::with_capacity(alloc, seats.len()) else {
-        return None;
-    };
-    for _ in 0..seats.len() {
-        let Some(seat) = seats.pop() else {
-            return Some(worker_seats);
-        };
-        worker_seats.push_reserved(worker_seat_of(seat, sequencer));
-    }
-    Some(worker_seats)
-}
-
-/// Serves sessions by turns, until the machine ends. Then it hands back what the watch has seen.
+/// Serves sessions by turns, until the machine ends. Then it hands back what the watch has seen, and the seat.
 fn serve<'a, R: Wait + SystemClock>(
     tools: Tools<'a, R>,
     worker_seat: WorkerSeat<'a>,
@@ -77,8 +59,8 @@ fn serve<'a, R: Wait + SystemClock>(
     sight: Sight,
     watcher: Watcher,
     terms: Terms,
-) -> WorkerEnd
-    ensures { HandsBack watch terms result }
+) -> (WorkerEnd, Seat)
+    ensures { HandsBack watch terms worker_seat.entry.seat result.0 result.1 }
 {
     let WorkerSeat { seat, sequencer } = worker_seat;
     let (rt, alloc) = (tools.rt, tools.alloc);
@@ -86,8 +68,8 @@ fn serve<'a, R: Wait + SystemClock>(
     let post = Post::new(rt, alloc, watch, clock, seat, sequencer, terms);
     let begun = Worker::new(alloc, post);
     let worker = work(tools, watcher, sight, begun);
-    let (watch, _seat) = worker.into_parts();
-    WorkerEnd { seen: watch.seen() }
+    let (watch, seat) = worker.into_parts();
+    (WorkerEnd { seen: watch.seen() }, seat)
 }
 
 /// Starts the thread of a worker. None if the thread can't be started.
@@ -100,23 +82,24 @@ pub(crate) fn start_worker<'s, E, R: Wait + SystemClock + Sync>(
     watch: Watch,
     sight: Sight,
 ) -> Option<WorkerHandle>
-    ensures promise { IfSome result (λ handle. IsServing watch (terms_in context.entry.server.now.life) handle.promise) }
+    ensures promise { IfSome result (λ handle. IsServing watch (terms_in context.entry.server.now.life) worker_seat.entry.seat handle.promise) }
 {
     let (rt, alloc, server) = (context.rt, context.alloc, context.server);
+    let WorkerSeat { seat, sequencer } = worker_seat;
     let promise = ServesClients {
         watch: Snapshot::of(&watch),
         terms: server.life.terms(),
+        seat: Snapshot::of(&seat),
     };
     let terms = server.life.terms();
     let (listeners, counts, idle) = (server.listeners, &server.counts, server.life.pauses.idle);
-    let WorkerSeat { seat, sequencer } = worker_seat;
     let watcher = inbox.take_watcher(rt)?;
     scope
         .spawn_with(
             promise,
-            move || -> WorkerEnd
+            move || -> (WorkerEnd, Seat)
                 requires { seat.table ≡ sequencer.now }
-                ensures { HandsBack watch terms result }
+                ensures { HandsBack watch terms seat result.0 result.1 }
             {
                 let tools = Tools {
                     rt,
@@ -129,7 +112,7 @@ pub(crate) fn start_worker<'s, E, R: Wait + SystemClock + Sync>(
                 };
                 serve(
                     tools,
-                    worker_seat_of(seat, sequencer),
+                    WorkerSeat { seat, sequencer },
                     watch,
                     sight,
                     watcher,

@@ -1,5 +1,4 @@
 use Rattle.std.proofs.Common.{ap, subst, ◌∙◌}
-use Rattle.tt_publish.specs.Known.{WatchState}
 use Rattle.tt_connections.specs.Station.{PostState}
 use Rattle.tt_clock.specs.Clock.{ClockState}
 use Rattle.tt_workers.specs.Worker.{WorkerServed}
@@ -10,7 +9,8 @@ pub returns : goal.returns
 returns g c =
     let made = c.new-post.ensures.made in
     let first = c.new-post.result in
-    let served = subst (λ (p : PostState ClockState). WorkerServed p c.into_parts-watch.result.0 c.into_parts-watch.result.1) (c.work-worker.ensures.first ∙ c.new-begun.ensures.first) c.into_parts-watch.ensures.served in
-    handed-back c.args.watch c.into_parts-watch.result.0 c.args.terms first c.into_parts-watch.result.1 (record { seen = c.seen.result })
+    let seat = c.into_parts-watch.result.1 in
+    let served = subst (λ (p : PostState ClockState). WorkerServed p c.into_parts-watch.result.0 seat) (c.work-worker.ensures.first ∙ c.new-begun.ensures.first) c.into_parts-watch.ensures.served in
+    handed-back c.args.watch c.into_parts-watch.result.0 c.args.terms first c.args.worker_seat.seat seat (record { seen = c.seen.result })
     (ap (λ (p : PostState ClockState). p.watch) made) (ap (λ (p : PostState ClockState). p.lease) made) (ap (λ (p : PostState ClockState). p.stampers) made) (ap (λ (p : PostState ClockState). p.ahead) made) (ap (λ (p : PostState ClockState). p.max_width) made)
-    served c.seen.ensures
+    (ap (λ (p : PostState ClockState). p.seat) made) served c.seen.ensures
