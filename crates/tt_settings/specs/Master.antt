@@ -154,7 +154,11 @@ listed_in t = do
   items ← typed_value found.0 (as_array found.1)
   masters_if found.0 items
 
+-- a master of the form that a key lists
+abbrev pub member_in : Key → Data → Result Master SettingsFault
+member_in Masters d = local_in d
+member_in key d = table_in d
+
 -- the masters that these items are
 abbrev pub masters_of : Key × Items → Result (List Master) SettingsFault
-masters_of (Masters, items) = each local_in items
-masters_of (key, items) = each table_in items
+masters_of (key, items) = each (member_in key) items

@@ -29,7 +29,7 @@ fn has_same_address(masters: &[MasterSettings]) -> bool
 }
 
 /// Whether a master with this address is among these.
-fn has_address(address: &str, masters: &[MasterSettings]) -> bool
+pub(crate) fn has_address(address: &str, masters: &[MasterSettings]) -> bool
     ensures { result ≡ has_address address.now masters.now }
 {
     for master in masters {
@@ -53,7 +53,7 @@ fn shares_key(one: &MasterSettings, other: &MasterSettings) -> bool
 }
 
 /// Whether a master shares the number of a key with one of these.
-fn shares_with_any(one: &MasterSettings, others: &[MasterSettings]) -> bool
+pub(crate) fn shares_with_any(one: &MasterSettings, others: &[MasterSettings]) -> bool
     ensures { result ≡ list_any (λ other. shares_key one.now other) others.now }
 {
     for other in others {

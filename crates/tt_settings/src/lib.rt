@@ -26,7 +26,7 @@
 //! - `forms`: the settings that are one of two words. `addresses`: addresses of this host. `durations`: lengths of time with a unit. `numerals`: decimal numbers.
 //! - `checks`: what is refused of settings that can be read. `paths`: which files paths name.
 //! - `keys`: the keys of the file. `lookups`: values of a table by their keys.
-//! - `faults`: why a text is refused. `refusals`: the same for a person, in the words of `wordings` and `master_words`. `places`: where a text has a key.
+//! - `faults`: why a text is refused. `refusals`: the same for a person, in the words of `wordings`. `places`: where a document is at fault.
 #![tactic(auto)]
 
 mod addresses;
@@ -36,7 +36,6 @@ mod faults;
 mod forms;
 mod keys;
 mod lookups;
-mod master_words;
 mod masters;
 mod names;
 mod numerals;

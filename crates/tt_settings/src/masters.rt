@@ -6,9 +6,9 @@ ghost use Rattle.toml.specs.View.{view, table_view, array_view};
 ghost use Rattle.tt_span.specs.Sources.{max_sources};
 ghost use Rattle.tt_settings.specs.Fault.{IsRefusal};
 ghost use Rattle.tt_settings.specs.declared.faults.SettingsFault.TheVariants.{Memory};
-ghost use Rattle.tt_settings.specs.Lookup.{count_of, each};
+ghost use Rattle.tt_settings.specs.Lookup.{count_of};
 ghost use Rattle.tt_settings.specs.Socket.{address_of, host_of, is_usable};
-ghost use Rattle.tt_settings.specs.Master.{any_place, can_be_asked, has_twice, is_local, listed_if, listed_in, local_in, local_place, master_of, masters_of, number_in, numbers_at, numbers_in, numbers_of, place_for, table_in};
+ghost use Rattle.tt_settings.specs.Master.{any_place, can_be_asked, has_twice, is_local, listed_if, listed_in, local_in, local_place, master_of, masters_of, member_in, number_in, numbers_at, numbers_in, numbers_of, place_for, table_in};
 
 use crate::faults::SettingsFault;
 use crate::keys::{Key, MASTER_KEYS};
@@ -258,7 +258,7 @@ fn master_of(alloc: Global, table: &Table) -> Result<MasterSettings, SettingsFau
 }
 
 /// A master of the long form: a table.
-pub(crate) fn table_in(alloc: Global, value: &Value) -> Result<MasterSettings, SettingsFault>
+fn table_in(alloc: Global, value: &Value) -> Result<MasterSettings, SettingsFault>
     ensures { let defined = table_in (view value.now) in
         MatchResult result (λ master. defined ≡ Ok master) (IsRefusal defined) }
 {
@@ -270,7 +270,7 @@ pub(crate) fn table_in(alloc: Global, value: &Value) -> Result<MasterSettings, S
 
 /// A master of the short form: an address of this host.
 #[tactic(auto, unfolding(crate::specs::Master::local_in))]
-pub(crate) fn local_in(alloc: Global, value: &Value) -> Result<MasterSettings, SettingsFault>
+fn local_in(alloc: Global, value: &Value) -> Result<MasterSettings, SettingsFault>
     ensures { let defined = local_in (view value.now) in
         MatchResult result (λ master. defined ≡ Ok master) (IsRefusal defined) }
 {
@@ -310,41 +310,33 @@ pub(crate) fn listed_in(table: &Table) -> Result<(Key, &Array), SettingsFault>
     Ok((key, items))
 }
 
-/// The masters of the short form, one after the other.
-fn locals_of(alloc: Global, items: &Array) -> Result<Vec<MasterSettings>, SettingsFault>
-    ensures { let defined = each local_in (array_view items.now) in
-        MatchResult result (λ masters. defined ≡ Ok masters.items) (IsRefusal defined) }
+/// A master of the form that this key lists.
+pub(crate) fn member_in(
+    alloc: Global,
+    list: Key,
+    value: &Value,
+) -> Result<MasterSettings, SettingsFault>
+    ensures { let defined = member_in list (view value.now) in
+        MatchResult result (λ master. defined ≡ Ok master) (IsRefusal defined) }
 {
-    let mut masters = Vec::new(alloc);
-    for item in items {
-        masters.push(local_in(alloc, item)?)?;
+    match list {
+        Key::Masters => local_in(alloc, value),
+        _ => table_in(alloc, value),
     }
-    Ok(masters)
 }
 
-/// The masters of the long form, one after the other.
-fn tables_of(alloc: Global, items: &Array) -> Result<Vec<MasterSettings>, SettingsFault>
-    ensures { let defined = each table_in (array_view items.now) in
-        MatchResult result (λ masters. defined ≡ Ok masters.items) (IsRefusal defined) }
-{
-    let mut masters = Vec::new(alloc);
-    for item in items {
-        masters.push(table_in(alloc, item)?)?;
-    }
-    Ok(masters)
-}
-
-/// The masters that these items are, under their key.
+/// The masters that these items are, under their key, one after the other.
 pub(crate) fn masters_of(
     alloc: Global,
-    key: Key,
+    list: Key,
     items: &Array,
 ) -> Result<Vec<MasterSettings>, SettingsFault>
-    ensures { let defined = masters_of (key, array_view items.now) in
+    ensures { let defined = masters_of (list, array_view items.now) in
         MatchResult result (λ masters. defined ≡ Ok masters.items) (IsRefusal defined) }
 {
-    match key {
-        Key::Masters => locals_of(alloc, items),
-        _ => tables_of(alloc, items),
+    let mut masters = Vec::new(alloc);
+    for item in items {
+        masters.push(member_in(alloc, list, item)?)?;
     }
+    Ok(masters)
 }

@@ -5,10 +5,8 @@ ghost use Rattle.tt_settings.specs.declared.faults.SettingsFault.TheVariants.{No
 ghost use Rattle.tt_settings.specs.Fault.{number_of};
 
 use crate::faults::SettingsFault;
-use crate::keys::{KEYS, Key};
-use crate::lookups::first_unknown;
-use crate::master_words::{Said, push_unknown, said_of_table};
-use crate::places::{line_at, line_of};
+use crate::keys::Key;
+use crate::places::{line_at, place_of};
 use crate::wordings::words_of;
 use std::alloc::{AllocError, Global};
 use std::fmt::{self, Display, Formatter, Write};
@@ -18,7 +16,7 @@ use toml::Table;
 /// Why a text is refused, and for a person where. In contracts it is its fault.
 ///
 /// It is printed as one line without its line feed: the key, if there is one, and behind it the value and what would be
-/// right, as `machine: 8 is above 7` and `poll: "0.5s": a whole number and ns, us, ms or s`. The wording is not fixed.
+/// right, as `machine: 8: a whole number from 0 to 7`. The wording is not fixed.
 #[derive(Drop)]
 pub struct Refusal {
     fault: SettingsFault,
@@ -95,91 +93,28 @@ impl Refusal {
     ) -> Refusal
         ensures { (result ≡ Memory) ⊎ (result ≡ fault) }
     {
-        match said_of(alloc, text, table, fault) {
-            Ok(said) => Refusal {
+        match told_of(alloc, text, table, fault) {
+            Ok((key, line, words)) => Refusal {
                 fault,
-                key: said.key,
-                line: said.line,
-                words: said.words,
+                key,
+                line,
+                words,
             },
             Err(_) => Refusal::of_memory(alloc),
         }
     }
 }
 
-/// What is to be said of a document with this fault.
-fn said_of(
+/// What a refusal tells a person of a document with this fault: the key, the line, and what is wrong.
+fn told_of(
     alloc: Global,
     text: &str,
     table: &Table,
     fault: SettingsFault,
-) -> Result<Said, AllocError> {
-    match fault.key() {
-        Some(Key::MasterAddress | Key::MasterKey) => {
-            if let Some(said) = said_of_table(alloc, text, table, fault)? {
-                return Ok(said);
-            }
-        }
-        Some(Key::Masters | Key::Master) => {
-            if let SettingsFault::SameMaster | SettingsFault::SameKey = fault {
-                if let Some(said) = said_of_table(alloc, text, table, fault)? {
-                    return Ok(said);
-                }
-            }
-        }
-        Some(_) => {}
-        None => return said_of_unknown(alloc, text, table),
-    }
-    said_of_key(alloc, text, table, fault)
-}
-
-/// What is to be said of the key of a fault.
-fn said_of_key(
-    alloc: Global,
-    text: &str,
-    table: &Table,
-    fault: SettingsFault,
-) -> Result<Said, AllocError> {
-    match fault.key() {
-        Some(key) => {
-            let words = words_of(alloc, table, key, fault)?;
-            let line = line_of(text, key.text());
-            Ok(Said {
-                key: Some(key),
-                line,
-                words,
-            })
-        }
-        None => Ok(Said {
-            key: None,
-            line: None,
-            words: String::new(alloc),
-        }),
-    }
-}
-
-/// Where a document has a name that is no key, and what is to be said of it.
-fn said_of_unknown(alloc: Global, text: &str, table: &Table) -> Result<Said, AllocError> {
-    let mut words = String::new(alloc);
-    match first_unknown(table) {
-        Some(name) => {
-            push_unknown(&mut words, alloc, name, &KEYS)?;
-            let line = line_of(text, name);
-            Ok(Said {
-                key: None,
-                line,
-                words,
-            })
-        }
-        None => match said_of_table(alloc, text, table, SettingsFault::UnknownKey)? {
-            Some(said) => Ok(said),
-            None => Ok(Said {
-                key: None,
-                line: None,
-                words,
-            }),
-        },
-    }
+) -> Result<(Option<Key>, Option<usize>, String), AllocError> {
+    let place = place_of(alloc, text, table, fault)?;
+    let words = words_of(alloc, &place, fault)?;
+    Ok((place.key, place.line, words))
 }
 
 impl Display for Refusal {

@@ -65,6 +65,7 @@ status_of_keys _ = Bad
 abbrev pub status_of_master : StartFault → Status
 status_of_master (master.ReadFailed reason) = Device
 status_of_master (master.CannotListen address reason) = Device
+status_of_master (master.CannotServePages address reason) = Device
 status_of_master (master.CannotAsk address reason) = Device
 status_of_master master.NoRandom = Device
 status_of_master (master.Keys fault) = status_of_keys fault

@@ -39,7 +39,7 @@ const READ_WAIT: u64 = 100;
 const PAUSE: u64 = 100;
 
 /// Why no reply came. It is shown as a person reads it.
-#[derive(Clone, Copy, Debug, PartialEq, Eq, Error)]
+#[derive(Clone, Copy, Debug, Error)]
 enum ReplyFault {
     #[error("no whole reply within 30 seconds")]
     Late,

@@ -22,7 +22,7 @@ use tt_stream::ByteWriter;
 use ttd_words::write;
 
 /// Why a machine could write no file in a folder. It is shown as a person reads it.
-#[derive(Clone, Copy, Debug, PartialEq, Eq, Error)]
+#[derive(Clone, Copy, Debug, Error)]
 enum FolderFault {
     #[error("there is no such folder")]
     Missing,

@@ -19,7 +19,7 @@ use ttd_masters::StartFault;
 use ttd_words::{Status, WordsFault};
 
 /// Why a service prints a refusal.
-#[derive(Clone, Copy, Debug, PartialEq, Eq, Error)]
+#[derive(Clone, Copy, Debug, Error)]
 pub enum ServiceFault {
     /// The arguments after the program's name are rejected.
     #[error("{0}")]
@@ -131,6 +131,7 @@ fn status_of_master(fault: StartFault) -> Status
     match fault {
         StartFault::ReadFailed(_)
         | StartFault::CannotListen(_, _)
+        | StartFault::CannotServePages(_, _)
         | StartFault::CannotAsk(_, _)
         | StartFault::NoRandom => Status::Device,
         StartFault::Keys(fault) => status_of_keys(fault),

@@ -33,7 +33,7 @@ mod standard;
 mod watching;
 
 use arguments::words_given;
-use explaining::{asked_number, explain_number};
+use explaining::{asked_of, explain_asked};
 use program::{reject, run};
 use stacks::check_stack;
 use std::alloc::AllocError;
@@ -48,8 +48,8 @@ fn main(rt: HostRuntime) -> ExitCode {
     let mut output = Counted::new(rt.stdout());
     let status = match words_given(&rt) {
         Ok(words) => match check_stack(&rt, words.as_slice()) {
-            Ok(()) => match asked_number(words.as_slice()) {
-                Some(word) => explain_number(&rt, word, &mut output),
+            Ok(()) => match asked_of(words.as_slice()) {
+                Some(asked) => explain_asked(&rt, asked, &mut output),
                 None => run(&by_clock, words.as_slice(), &mut input, &mut output),
             },
             Err(fault) => {

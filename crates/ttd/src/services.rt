@@ -73,6 +73,7 @@ fn run_service<H: ServerHost + ByClocks + AsksServers + Env + Screen, I: ByteRea
             log,
             keys,
             status,
+            http,
         } => {
             let plan = MasterPlan {
                 source: *source,
@@ -82,6 +83,7 @@ fn run_service<H: ServerHost + ByClocks + AsksServers + Env + Screen, I: ByteRea
                 log: *log,
                 keys: *keys,
                 status: *status,
+                http: *http,
             };
             serve_polls(&rt.by(HostClock::Raw), plan).map_err(ServiceFault::from)?;
             Ok(())

@@ -142,10 +142,16 @@ fn say_no_key<H: Eprint>(rt: &H, settings: &Settings, number: u32) {
     }
 }
 
-/// How the program ends after a life that knew that an assumption is broken: the units start it again, unless it is to stay down.
-fn status_of(on_break: OnBreak) -> Status {
+/// How the program ends after a life that knew that an assumption is broken: the units start it again, unless it is to stay down, as standard
+/// error then says.
+fn status_after<H: Eprint>(rt: &H, on_break: OnBreak) -> Status {
     match on_break {
-        OnBreak::Stay => Status::Bad,
+        OnBreak::Stay => {
+            let _ = eprint!(rt;
+                "ttd: an assumption is broken, and by on_break the machine stays down until it is started\n"
+            );
+            Status::Bad
+        }
         _ => Status::Broken,
     }
 }
@@ -169,8 +175,8 @@ pub(crate) fn run_server<H: ServerHost + ByClocks, O: ByteWriter>(
     if !check {
         return match serve(&rt.by(settings.clock()), &settings, until_eof) {
             Ok(end) => {
-                if end.broken {
-                    Err(Stop::Told(status_of(settings.on_break())))
+                if end.broken.is_some() {
+                    Err(Stop::Told(status_after(rt, settings.on_break())))
                 } else {
                     Ok(())
                 }

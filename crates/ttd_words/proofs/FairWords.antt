@@ -20,7 +20,7 @@ use Rattle.tt_settings.specs.Form.{log_format_of}
 use Rattle.tt_settings.specs.Numeral.{number_of as amount_of}
 use Rattle.ttd_words.specs.CommandLine.{max_columns, max_faulty, max_id, max_tai_offset, min_columns}
 use Rattle.ttd_words.specs.Fault.{◌>>=◌, id_of}
-use Rattle.ttd_words.specs.Reading.{AtPath, refuse_if, act_of, age_at, drift_at, duration_at, duration_if, faulty_at, faulty_of, has_twice, flag_at, key_at, key_of_both, no_ntp_option, no_ntp_options, no_stated_option, no_real_option, real_of, device_of, clock_of, tai_offset_of, ntp_of, number_if, number_or, offset_if, server_if, servers_fit, servers_in, stated_of, time_by, time_of, acts_at, acts_in, ask_of, has_byte, id_at, id_if, key_of, listen_at, listen_if, log_at, master_of, name_at, name_if, number_at, number_to, offset_by, place_at, place_by, place_in, read_of, serve_of, service_of, text_at, time_behind, top_of, columns_if, up_to}
+use Rattle.ttd_words.specs.Reading.{AtPath, refuse_if, act_of, age_at, drift_at, duration_at, duration_if, faulty_at, faulty_of, has_twice, flag_at, key_at, key_of_both, no_ntp_option, no_ntp_options, no_stated_option, no_real_option, real_of, device_of, clock_of, tai_offset_of, ntp_of, number_if, number_or, offset_if, fixed_if, http_if, servers_fit, servers_in, stated_of, time_by, time_of, acts_at, acts_in, ask_of, has_byte, id_at, id_if, key_of, listen_at, listen_if, log_at, master_of, name_at, name_if, number_at, number_to, offset_by, place_at, place_by, place_in, read_of, serve_of, service_of, text_at, time_behind, top_of, columns_if, up_to}
 use Rattle.ttd_words.specs.declared.faults.Given.{Given}
 use Rattle.ttd_words.specs.declared.faults.Given.TheVariants as given
 use Rattle.ttd_words.specs.declared.faults.TimeOption.{TimeOption}
@@ -192,18 +192,26 @@ stated_fair rows =
     then_fair (drift_at rows) _ (number_or_fair max_drift default_drift (number_at (codes "drift") rows)) (λ drift.
     clock_fair uncertainty drift (first_of (codes "phc") rows) rows)))
 
-server_fair : (o : Option SocketAddr) → IsFair (server_if o)
-server_fair None = λ e. cc
-server_fair (Some address) = go (nat_lt 0 (socket_port address))
+-- a refusal that names a value is no want of memory
+value_other : (g : Given) → BadValue g ≡ Memory → ⊥
+value_other g e = cc
+
+fixed_fair : (g : Given) (o : Option SocketAddr) → IsFair (fixed_if g o)
+fixed_fair g None = value_other g
+fixed_fair g (Some address) = go (nat_lt 0 (socket_port address))
   where
-    go : (b : Bool) → IsFair (cond b (Ok address) (Err (BadValue given.Ntp)))
+    go : (b : Bool) → IsFair (cond b (Ok address) (Err (BadValue g)))
     go true = tt
-    go false = λ e. cc
+    go false = value_other g
+
+http_fair : (o : Option Text) → IsFair (http_if o)
+http_fair None = tt
+http_fair (Some text) = then_fair (fixed_if given.Http (address_of text)) _ (fixed_fair given.Http (address_of text)) (λ address. tt)
 
 servers_in_fair : (texts : List Text) → IsFair (servers_in texts)
 servers_in_fair [] = tt
 servers_in_fair (text ∷ rest) =
-    then_fair (server_if (address_of text)) _ (server_fair (address_of text)) (λ server. then_fair (servers_in rest) _ (servers_in_fair rest) (λ servers. tt))
+    then_fair (fixed_if given.Ntp (address_of text)) _ (fixed_fair given.Ntp (address_of text)) (λ server. then_fair (servers_in rest) _ (servers_in_fair rest) (λ servers. tt))
 
 servers_fit_fair : (texts : List Text) → IsFair (servers_fit texts)
 servers_fit_fair texts =
@@ -220,10 +228,6 @@ faulty_of_fair servers faulty = go (nat_lt (2 * faulty) servers)
 faulty_fair : (servers : ℕ) (rows : List Row) → IsFair (faulty_at servers rows)
 faulty_fair servers rows =
     then_fair (number_or max_faulty 0 (number_at (codes "faulty") rows)) _ (number_or_fair max_faulty 0 (number_at (codes "faulty") rows)) (faulty_of_fair servers)
-
--- a refusal that names a value is no want of memory
-value_other : (g : Given) → BadValue g ≡ Memory → ⊥
-value_other g e = cc
 
 duration_if_fair : (g : Given) (o : Option ℕ) → IsFair (duration_if g o)
 duration_if_fair g None = value_other g
@@ -279,7 +283,8 @@ master_fair rows =
     then_fair (listen_at (codes "listen") (is_some (first_of (codes "keys") rows)) rows) _ (then_fair (text_at (codes "listen") rows) _ (text_fair (codes "listen") rows) (λ text. listen_fair (is_some (first_of (codes "keys") rows)) (address_of text))) (λ listen.
     then_fair (number_if max_time (number_at (codes "warn-width") rows)) _ (number_if_fair max_time (number_at (codes "warn-width") rows)) (λ warn_width.
     then_fair (log_at (codes "log") rows) _ (then_fair (text_at (codes "log") rows) _ (text_fair (codes "log") rows) (λ text. some_fair (log_format_of text) (BadValue given.Log) (λ e. cc))) (λ log.
-    then_fair (time_of rows) _ (time_by_fair (is_some (first_of (codes "uncertainty") rows)) (all_of (codes "ntp") rows) rows) (λ time. tt)))))
+    then_fair (http_if (first_of (codes "http") rows)) _ (http_fair (first_of (codes "http") rows)) (λ http.
+    then_fair (time_of rows) _ (time_by_fair (is_some (first_of (codes "uncertainty") rows)) (all_of (codes "ntp") rows) rows) (λ time. tt))))))
 
 ask_fair : (rows : List Row) → IsFair (ask_of rows)
 unfolding ask_of

@@ -12,6 +12,11 @@ use Rattle.tt_span.specs.Drift.{max_drift}
 use Rattle.tt_span.specs.Time.{max_time}
 use Rattle.tt_poll.specs.Message.{max_source}
 use Rattle.tt_daemon.specs.Config.{default_drift}
+use Rattle.ttd_words.specs.declared.options.Row.{Row as Argument}
+use Rattle.ttd_words.specs.declared.options.OptionValue.{OptionValue}
+use Rattle.ttd_words.specs.declared.options.OptionValue.TheVariants as of
+use Rattle.ttd_words.specs.declared.options.Form.{Form}
+use Rattle.ttd_words.specs.declared.options.Form.TheVariants as form
 
 -- The greatest number of 64 bits.
 abbrev pub max_number : ℕ
@@ -87,45 +92,17 @@ abbrev pub place_rule : Text → Rule
 place_rule name = record (new_rule name) { value_names = 1; required = true }
 
 -- All further words.
-abbrev pub words_rule : Rule
-words_rule = record (new_rule (codes "words")) { value_names = 1; action = Some Append }
-
--- The command `master` with the options that have to be given.
-unfoldable pub plain_master_app : App
-plain_master_app = with_rule (with_rule (new_app (codes "master")) (needed_rule (codes "source") max_source)) (text_rule (codes "listen"))
-
--- The command `master` with these and the options of a stated uncertainty.
-unfoldable pub stated_master_app : App
-stated_master_app = with_rule (with_rule (with_rule plain_master_app (number_rule (codes "uncertainty") max_time)) (free_rule (codes "offset")))
-    (many_rule (codes "act"))
+abbrev pub words_rule : Text → Rule
+words_rule name = record (new_rule name) { value_names = 1; action = Some Append }
 
 -- The most seconds that TAI may be ahead of UTC.
 abbrev pub max_tai_offset : ℕ
 max_tai_offset = 100
 
--- The command `master` with these and the options of a hardware clock.
-unfoldable pub device_master_app : App
-device_master_app = with_rule (with_rule stated_master_app (free_rule (codes "phc"))) (number_rule (codes "tai-offset") max_tai_offset)
-
--- The command `master` with these and the servers, and which of them may be wrong by what.
-unfoldable pub ntp_master_app : App
-ntp_master_app = with_rule (with_rule (with_rule device_master_app (many_rule (codes "ntp"))) (number_rule (codes "faulty") max_faulty))
-    (number_rule (codes "margin") max_time)
-
--- The command `master` with these and how often and how long servers are trusted.
-unfoldable pub paced_master_app : App
-paced_master_app = with_rule (with_rule (with_rule ntp_master_app (free_rule (codes "every"))) (number_rule (codes "drift") max_drift))
-    (free_rule (codes "max-age"))
-
--- The command `master` with these and what more is asked of servers.
-unfoldable pub asking_master_app : App
-asking_master_app = with_rule (with_rule (with_rule paced_master_app (id_rule (codes "ntp-key"))) (free_rule (codes "ntp-keys")))
-    (flag_rule (codes "local"))
-
--- The command `master` with these, its warning, the form of its log, and its files.
+-- The command `master` with its options.
 unfoldable pub master_app : App
-master_app = with_rule (with_rule (with_rule (with_rule asking_master_app (number_rule (codes "warn-width") max_time)) log_rule) (free_rule (codes "keys")))
-    (free_rule (codes "status"))
+master_app = with_rule (with_rule (with_rule (with_rule (with_rule (with_rule (with_rule (with_rule (with_rule (with_rule (with_rule (with_rule (with_rule (with_rule (with_rule (with_rule (with_rule (with_rule (with_rule (with_rule (with_rule (new_app (codes "master")) (needed_rule (codes "source") max_source)) (text_rule (codes "listen"))) (number_rule (codes "uncertainty") max_time)) (free_rule (codes "offset"))) (many_rule (codes "act"))) (free_rule (codes "phc"))) (number_rule (codes "tai-offset") max_tai_offset)) (many_rule (codes "ntp"))) (number_rule (codes "faulty") max_faulty)) (number_rule (codes "margin") max_time)) (free_rule (codes "every"))) (number_rule (codes "drift") max_drift)) (free_rule (codes "max-age"))) (id_rule (codes "ntp-key"))) (free_rule (codes "ntp-keys"))) (flag_rule (codes "local"))) (number_rule (codes "warn-width") max_time)) log_rule) (free_rule (codes "keys")))
+    (free_rule (codes "status"))) (free_rule (codes "http"))
 
 -- The command `serve` with its file and its flags.
 unfoldable pub serve_app : App
@@ -133,7 +110,7 @@ serve_app = with_rule (with_rule (with_rule (new_app (codes "serve")) (place_rul
 
 -- The command `ask` with its address, the words of a line, and its option.
 unfoldable pub ask_app : App
-ask_app = with_rule (with_rule (with_rule (new_app (codes "ask")) (place_rule (codes "address"))) words_rule) retry_rule
+ask_app = with_rule (with_rule (with_rule (new_app (codes "ask")) (place_rule (codes "address"))) (words_rule (codes "words"))) retry_rule
 
 -- The command `read` with its file.
 unfoldable pub read_app : App
@@ -159,13 +136,42 @@ columns_rule = record (new_rule (codes "columns")) {
   parser = Some (vp.Unsigned min_columns max_columns);
 }
 
--- The command `top` with its place and whether it shows one table.
-unfoldable pub plain_top_app : App
-plain_top_app = with_rule (with_rule (new_app (codes "top")) (place_rule (codes "place"))) (flag_rule (codes "once"))
-
--- The command `top` with these, its columns, and whether it draws.
+-- The command `top` with its place and its options.
 unfoldable pub top_app : App
-top_app = with_rule (with_rule plain_top_app columns_rule) (flag_rule (codes "svg"))
+top_app = with_rule (with_rule (with_rule (with_rule (new_app (codes "top")) (place_rule (codes "place"))) (flag_rule (codes "once"))) columns_rule) (flag_rule (codes "svg"))
+
+-- An option `--NAME VALUE` with such a value.
+abbrev pub option_rule : OptionValue → Text → Rule
+option_rule of.Any name = free_rule name
+option_rule of.Needed name = text_rule name
+option_rule of.Many name = many_rule name
+option_rule of.Log name = record (free_rule name) { defaults = codes "text" ∷ [] }
+option_rule of.Number name = given_rule name
+option_rule of.Drift name = number_rule name max_drift
+option_rule of.DefaultDrift name = record (number_rule name max_drift) { defaults = count_text default_drift ∷ [] }
+option_rule of.Id name = id_rule name
+option_rule of.Source name = needed_rule name max_source
+option_rule of.Time name = number_rule name max_time
+option_rule of.TaiOffset name = number_rule name max_tai_offset
+option_rule of.Faulty name = number_rule name max_faulty
+option_rule of.Retry name = record (number_rule name 9999) { defaults = codes "50" ∷ [] }
+option_rule of.Columns name = record (free_rule name) { parser = Some (vp.Unsigned min_columns max_columns) }
+
+-- An argument of such a form.
+abbrev pub form_rule : Form → Text → Rule
+form_rule (form.Option takes) name = option_rule takes name
+form_rule form.Flag name = flag_rule name
+form_rule form.Place name = place_rule name
+form_rule form.Words name = words_rule name
+
+-- What clap goes by of an argument.
+abbrev pub row_rule : Argument → Rule
+row_rule r = form_rule r.form r.name.now
+
+-- A command with these arguments, in their order.
+abbrev pub with_rows : List Argument → App → App
+with_rows [] a = a
+with_rows (r ∷ rest) a = with_rows rest (with_rule a (row_rule r))
 
 -- The program with no command yet: its words begin with no name of the program, and one command has to be named.
 unfoldable pub bare_app : App
@@ -189,7 +195,7 @@ servers_app = with_subcommand (with_subcommand inputs_app master_app.top) serve_
 
 -- The program with all its commands.
 unfoldable pub ttd_app : App
-unfolding age_app twin_app plain_master_app stated_master_app device_master_app ntp_master_app paced_master_app asking_master_app master_app serve_app ask_app read_app plain_top_app top_app key_app bare_app sources_app runs_app inputs_app servers_app
+unfolding age_app twin_app master_app serve_app ask_app read_app top_app key_app bare_app sources_app runs_app inputs_app servers_app
 ttd_app = with_subcommand (with_subcommand (with_subcommand (with_subcommand servers_app ask_app.top) read_app.top) top_app.top) key_app.top
 
 -- What clap finds wrong with the words: nothing where it takes them, and else the kinds of error that it may answer.

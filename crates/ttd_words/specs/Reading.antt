@@ -121,7 +121,7 @@ time_meant (time.Ntp ntp) = ByServers (record {
 
 -- What a service is to do, without its memory.
 pub data Meaning : Type 0 where
-  Master : ℕ → SocketAddr → Time → Option ℕ → LogFormat → Option Text → Option Text → Meaning
+  Master : ℕ → SocketAddr → Time → Option ℕ → LogFormat → Option Text → Option Text → Option SocketAddr → Meaning
   Serve : Text → Bool → Bool → Meaning
   Ask : Place → Option Text → ℕ → Meaning
   Read : Text → Meaning
@@ -130,8 +130,8 @@ pub data Meaning : Type 0 where
 
 -- What a service is to do.
 abbrev pub meaning_of : Service → Meaning
-meaning_of (service.Master source listen time warn_width log keys status) =
-    Master source listen (time_meant time) warn_width log (option_map (λ path. path.now) keys) (option_map (λ path. path.now) status)
+meaning_of (service.Master source listen time warn_width log keys status http) =
+    Master source listen (time_meant time) warn_width log (option_map (λ path. path.now) keys) (option_map (λ path. path.now) status) http
 meaning_of (service.Serve file check until_eof) = Serve file.now check until_eof
 meaning_of (service.Ask peer line retry) = Ask (place_of peer) (option_map string_bytes line) retry
 meaning_of (service.Read file) = Read file.now
@@ -329,16 +329,23 @@ stated_of rows = do
   drift ← drift_at rows
   clock_of uncertainty drift (first_of (codes "phc") rows) rows
 
--- An address of an NTP server: one with a port above 0.
-abbrev pub server_if : Option SocketAddr → Result SocketAddr WordsFault
-server_if (Some address) = if nat_lt 0 (socket_port address) then Ok address else Err (BadValue given.Ntp)
-server_if None = Err (BadValue given.Ntp)
+-- An address with a port above 0, of which a wrong one is refused as this.
+abbrev pub fixed_if : Given → Option SocketAddr → Result SocketAddr WordsFault
+fixed_if refusal (Some address) = if nat_lt 0 (socket_port address) then Ok address else Err (BadValue refusal)
+fixed_if refusal None = Err (BadValue refusal)
+
+-- The address of pages that a text writes, where there is a text.
+abbrev pub http_if : Option Text → Result (Option SocketAddr) WordsFault
+http_if None = Ok None
+http_if (Some text) = do
+  address ← fixed_if given.Http (address_of text)
+  Ok (Some address)
 
 -- The addresses that texts write, one after the other.
 abbrev pub servers_in : List Text → Result (List SocketAddr) WordsFault
 servers_in [] = Ok []
 servers_in (text ∷ rest) = do
-  server ← server_if (address_of text)
+  server ← fixed_if given.Ntp (address_of text)
   servers ← servers_in rest
   Ok (server ∷ servers)
 
@@ -447,8 +454,9 @@ master_of rows = do
   listen ← listen_at (codes "listen") (is_some (first_of (codes "keys") rows)) rows
   warn_width ← number_if max_time (number_at (codes "warn-width") rows)
   log ← log_at (codes "log") rows
+  http ← http_if (first_of (codes "http") rows)
   time ← time_of rows
-  Ok (Master source listen time warn_width log (first_of (codes "keys") rows) (first_of (codes "status") rows))
+  Ok (Master source listen time warn_width log (first_of (codes "keys") rows) (first_of (codes "status") rows) http)
 
 -- The command `serve` by what was found.
 abbrev pub serve_of : List Row → Result Meaning WordsFault

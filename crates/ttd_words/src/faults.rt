@@ -111,6 +111,9 @@ pub enum Given {
     /// `--ntp-keys` of `master` without `--ntp-key`.
     #[error("invalid arguments: --ntp-keys FILE needs --ntp-key N")]
     NtpKeysAlone,
+    /// `--http` of `master`, which is no address with a port above 0.
+    #[error("invalid arguments: --http is an address and a port above 0, as 127.0.0.1:9561 or 10.0.0.1:9561")]
+    Http,
     /// `--name` of `key`.
     #[error("invalid arguments: --name is printable characters of ASCII without blanks")]
     Name,

@@ -4,8 +4,9 @@
 pub(crate) const ABOUT_ANSWERS: &str = "\
 Each command above `master` reads standard input to its end, at most 1048576 bytes (judge: 1 GiB):
   ttd run < FILE
-It prints its answer, or the one line `refused N`; standard error says what N means, and
-`ttd explain N` what to do.
+It prints its answer, or the one line `refused N`; standard error says what N means.
+
+One more command stands beside these: `ttd explain N` says what to do about a refusal.
 Times and clock readings are nanoseconds. `ttd <COMMAND> --help` says more of a command.
 
 The commands from `master` on are services, which talk to other processes. master and serve run until

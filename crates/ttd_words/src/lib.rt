@@ -20,15 +20,15 @@
 //! and is only tested.
 //!
 //! - `requests`: what arguments can ask for. `faults`: why they are rejected.
-//! - `options`: the options and the positional arguments, `commands`: the commands with them, and `tree`: the whole
-//!   command line. `help` and `service_help`: the texts of the help.
+//! - `options`: what clap is told of an option or a positional argument. `commands`: the commands with tables of theirs, and
+//!   `tree`: the whole command line. `help` and `service_help`: the texts of the help.
 //! - `values`: what was given for an option. `masters`: what the time of a master stands on. [`words`]: what the
 //!   arguments ask for. `texts`: the help, and what is wrong.
 //! - `ending`: how the program ends. `refusals`: what is written, and what is said of a refusal. `sentences`: what the
 //!   refusals of a machine mean.
 //!
-//! To add a command, add its options to `specs/CommandLine.antt` (and its name to the line `unfolding` of `ttd_app`),
-//! `options` and `commands`, its meaning to `specs/Reading.antt` and `words`, and a place for it to `all_taken` of
+//! To add a command, add its options to `specs/CommandLine.antt` (and its name to the line `unfolding` of `ttd_app`), a
+//! table and itself to `commands`, its meaning to `specs/Reading.antt` and `words`, and a place for it to `all_taken` of
 //! `proofs/TakenWords.antt`.
 #![tactic(auto)]
 

@@ -6,7 +6,7 @@ ghost use Rattle.clap.specs.Words.{found_of, rows_of};
 ghost use Rattle.tt_settings.specs.Duration.{duration_of as duration_in};
 ghost use Rattle.tt_settings.specs.Socket.{address_of as address_in};
 ghost use Rattle.ttd_words.specs.CommandLine.{max_faulty};
-ghost use Rattle.ttd_words.specs.Reading.{number_at, IsTimeMeant, age_at, clock_of, device_of, drift_at, duration_at, duration_if, faulty_at, faulty_of, has_twice, is_among, key_at, no_ntp_option, no_ntp_options, no_real_option, no_stated_option, ntp_of, real_of, refuse_if, server_if, servers_fit, servers_in, stated_of, tai_offset_of, time_of};
+ghost use Rattle.ttd_words.specs.Reading.{number_at, IsTimeMeant, age_at, clock_of, device_of, drift_at, duration_at, duration_if, faulty_at, faulty_of, has_twice, is_among, key_at, no_ntp_option, no_ntp_options, no_real_option, no_stated_option, ntp_of, real_of, refuse_if, fixed_if, http_if, servers_fit, servers_in, stated_of, tai_offset_of, time_of};
 
 use crate::faults::{Given, TimeOption, WordsFault};
 use crate::requests::{MasterTime, NtpTime};
@@ -161,13 +161,30 @@ fn stated_asked<'a>(alloc: Global, matches: &ArgMatches<'a>) -> Result<MasterTim
     }
 }
 
-/// The address in this text, if it has a port above 0.
-pub(crate) fn server_in(text: &str) -> Result<SocketAddr, WordsFault>
-    ensures { result ≡ server_if (address_in text.now) }
+/// The address in this text, if it has a port above 0. Any other text is refused as this.
+fn fixed_in(text: &str, given: Given) -> Result<SocketAddr, WordsFault>
+    ensures { result ≡ fixed_if given (address_in text.now) }
 {
     match address_of(text) {
         Some(address) if address.port() > 0 => Ok(address),
-        _ => Err(WordsFault::BadValue(Given::Ntp)),
+        _ => Err(WordsFault::BadValue(given)),
+    }
+}
+
+/// The address of an NTP server in this text.
+pub(crate) fn server_in(text: &str) -> Result<SocketAddr, WordsFault>
+    ensures { result ≡ fixed_if Given.Ntp (address_in text.now) }
+{
+    fixed_in(text, Given::Ntp)
+}
+
+/// The address of pages that was given. None if it was left out.
+pub(crate) fn http_at(matches: &ArgMatches<'_>) -> Result<Option<SocketAddr>, WordsFault>
+    ensures { result ≡ http_if (first_of (codes "http") (rows_of (found_of matches.now))) }
+{
+    match path_at(matches, "http") {
+        Some(text) => Ok(Some(fixed_in(text, Given::Http)?)),
+        None => Ok(None),
     }
 }
 

@@ -1,13 +1,10 @@
-//! The options and the positional arguments, as they are given to clap.
+//! What clap is told of an option or a positional argument: rows of data, and what is made of them.
 
-ghost use Rattle.std.specs.Prelude.{◌≡◌, codes, false};
+ghost use Rattle.std.specs.Prelude.{◌≡◌, false};
 ghost use Rattle.clap.specs.Matches.{count_text};
 ghost use Rattle.clap.specs.Words.{rule_of};
-ghost use Rattle.tt_span.specs.Drift.{max_drift};
-ghost use Rattle.tt_span.specs.Time.{max_time};
-ghost use Rattle.tt_poll.specs.Message.{max_source};
 ghost use Rattle.tt_daemon.specs.Config.{default_drift};
-ghost use Rattle.ttd_words.specs.CommandLine.{columns_rule, drift_rule, flag_rule, free_rule, given_rule, id_rule, log_rule, many_rule, max_faulty, max_tai_offset, needed_rule, number_rule, place_rule, retry_rule, text_rule, words_rule};
+ghost use Rattle.ttd_words.specs.CommandLine.{flag_rule, free_rule, option_rule, place_rule, row_rule, words_rule};
 
 use crate::masters::{MOST_FAULTY, MOST_TAI_OFFSET};
 use crate::values::{LEAST_COLUMNS, MOST_COLUMNS, MOST_ID};
@@ -17,6 +14,65 @@ use std::alloc::Global;
 use tt_poll::MAX_SOURCE;
 use tt_span::{MAX_DRIFT, MAX_TIME};
 
+/// The value of an option `--NAME VALUE`. Where nothing else is said it may be left out, and has no default.
+#[derive(Clone, Copy)]
+pub(crate) enum OptionValue {
+    /// Any text.
+    Any,
+    /// Any text. It has to be given.
+    Needed,
+    /// Any text. It may be given often.
+    Many,
+    /// `text` or `json`, by default `text`.
+    Log,
+    /// A number of 64 bits. It has to be given.
+    Number,
+    /// A drift, at most [`MAX_DRIFT`].
+    Drift,
+    /// The same, by default that of a machine.
+    DefaultDrift,
+    /// The number of a key, at most [`MOST_ID`].
+    Id,
+    /// The number of a source, at most [`MAX_SOURCE`]. It has to be given.
+    Source,
+    /// Nanoseconds, at most [`MAX_TIME`].
+    Time,
+    /// Seconds that TAI is ahead of UTC, at most [`MOST_TAI_OFFSET`].
+    TaiOffset,
+    /// A number of servers, at most [`MOST_FAULTY`].
+    Faulty,
+    /// A number of tries, at most [`MOST_RETRY`], by default 50.
+    Retry,
+    /// A number of columns, from [`LEAST_COLUMNS`] to [`MOST_COLUMNS`].
+    Columns,
+}
+
+/// How an argument is given.
+#[derive(Clone, Copy)]
+pub(crate) enum Form {
+    /// As an option with such a value.
+    Option(OptionValue),
+    /// As a flag `--NAME`.
+    Flag,
+    /// By its place. It has to be given.
+    Place,
+    /// As all further words.
+    Words,
+}
+
+/// An option or a positional argument.
+#[derive(Clone, Copy)]
+pub(crate) struct Row {
+    /// Its name, which an option has behind two hyphens.
+    pub(crate) name: &'static str,
+    /// The name of its value in the help.
+    pub(crate) value: &'static str,
+    /// What it is, in the help.
+    pub(crate) help: &'static str,
+    /// How it is given.
+    pub(crate) form: Form,
+}
+
 /// The default drift, [`tt_daemon::DEFAULT_DRIFT`], in decimal.
 fn default_drift() -> &'static str
     ensures { result.now ≡ count_text default_drift }
@@ -24,70 +80,8 @@ fn default_drift() -> &'static str
     "200"
 }
 
-/// The option `--drift N`: [`tt_daemon::DEFAULT_DRIFT`] if it is not given, and at most [`MAX_DRIFT`].
-pub(crate) fn drift_option<'a>(alloc: Global) -> Arg<'a>
-    ensures rule { rule_of result ≡ drift_rule }
-    ensures local { result.global ≡ false }
-{
-    free_option(
-        alloc,
-        "drift",
-        "N",
-        "What the clock may be wrong by, in parts per million, up to 100000",
-    )
-    .default_value(default_drift())
-    .value_parser(value_parser!(u64).range(..=i64::from(MAX_DRIFT)))
-}
-
-/// The option `--drift N` of `master`: at most [`MAX_DRIFT`].
-pub(crate) fn master_drift_option<'a>(alloc: Global) -> Arg<'a>
-    ensures rule { rule_of result ≡ number_rule (codes "drift") max_drift }
-    ensures local { result.global ≡ false }
-{
-    free_option(
-        alloc,
-        "drift",
-        "N",
-        "What this computer's oscillator may be wrong by, in parts per million, up to 100000 [default: 200]",
-    )
-    .value_parser(value_parser!(u64).range(..=i64::from(MAX_DRIFT)))
-}
-
-/// A required option `--NAME VALUE` with a number of 64 bits.
-pub(crate) fn given_option<'a>(
-    alloc: Global,
-    name: &'a str,
-    value: &'a str,
-    help: &'a str,
-) -> Arg<'a>
-    ensures rule { rule_of result ≡ given_rule name.entry.now }
-    ensures local { result.global ≡ false }
-{
-    free_option(alloc, name, value, help)
-        .required(true)
-        .value_parser(value_parser!(u64))
-}
-
-/// A required option `--NAME TEXT` with any text.
-pub(crate) fn text_option<'a>(
-    alloc: Global,
-    name: &'a str,
-    value: &'a str,
-    help: &'a str,
-) -> Arg<'a>
-    ensures rule { rule_of result ≡ text_rule name.entry.now }
-    ensures local { result.global ≡ false }
-{
-    free_option(alloc, name, value, help).required(true)
-}
-
-/// An option `--NAME TEXT` with any text, which may be left out.
-pub(crate) fn free_option<'a>(
-    alloc: Global,
-    name: &'a str,
-    value: &'a str,
-    help: &'a str,
-) -> Arg<'a>
+/// An option `--NAME VALUE` with any text, which may be left out.
+fn free_option<'a>(alloc: Global, name: &'a str, value: &'a str, help: &'a str) -> Arg<'a>
     ensures rule { rule_of result ≡ free_rule name.entry.now }
     ensures local { result.global ≡ false }
 {
@@ -97,112 +91,47 @@ pub(crate) fn free_option<'a>(
         .help(help)
 }
 
-/// An option `--NAME N` with the number of a key: at most [`MOST_ID`].
-pub(crate) fn id_option<'a>(alloc: Global, name: &'a str, help: &'a str) -> Arg<'a>
-    ensures rule { rule_of result ≡ id_rule name.entry.now }
-    ensures local { result.global ≡ false }
-{
-    free_option(alloc, name, "N", help).value_parser(value_parser!(u64).range(..=MOST_ID as i64))
-}
-
-/// The option `--source I`: at most [`MAX_SOURCE`].
-pub(crate) fn source_option<'a>(alloc: Global) -> Arg<'a>
-    ensures rule { rule_of result ≡ needed_rule (codes "source") max_source }
-    ensures local { result.global ≡ false }
-{
-    free_option(alloc, "source", "I", "The source that it is, from 0 to 15")
-        .required(true)
-        .value_parser(value_parser!(u64).range(..=i64::from(MAX_SOURCE)))
-}
-
-/// An option `--NAME NS` with nanoseconds: at most [`MAX_TIME`].
-pub(crate) fn time_option<'a>(alloc: Global, name: &'a str, help: &'a str) -> Arg<'a>
-    ensures rule { rule_of result ≡ number_rule name.entry.now max_time }
-    ensures local { result.global ≡ false }
-{
-    free_option(alloc, name, "NS", help).value_parser(value_parser!(u64).range(..=MAX_TIME as i64))
-}
-
-/// The option `--tai-offset N`: at most [`MOST_TAI_OFFSET`].
-pub(crate) fn tai_offset_option<'a>(alloc: Global) -> Arg<'a>
-    ensures rule { rule_of result ≡ number_rule (codes "tai-offset") max_tai_offset }
-    ensures local { result.global ≡ false }
-{
-    free_option(
-        alloc,
-        "tai-offset",
-        "N",
-        "With --phc: how many seconds TAI, which it shows, is ahead of UTC, up to 100",
-    )
-    .value_parser(value_parser!(u64).range(..=MOST_TAI_OFFSET as i64))
-}
-
-/// The option `--faulty N`: at most [`MOST_FAULTY`].
-pub(crate) fn faulty_option<'a>(alloc: Global) -> Arg<'a>
-    ensures rule { rule_of result ≡ number_rule (codes "faulty") max_faulty }
-    ensures local { result.global ≡ false }
-{
-    free_option(
-        alloc,
-        "faulty",
-        "N",
-        "NTP: how many of the servers may be wrong, fewer than half of them [default: 0]",
-    )
-    .value_parser(value_parser!(u64).range(..=MOST_FAULTY as i64))
-}
-
-/// An option `--NAME VALUE` with any text, which may be given often.
-pub(crate) fn many_option<'a>(
+/// An option `--NAME VALUE` with such a value.
+fn option_of<'a>(
     alloc: Global,
     name: &'a str,
     value: &'a str,
     help: &'a str,
+    takes: OptionValue,
 ) -> Arg<'a>
-    ensures rule { rule_of result ≡ many_rule name.entry.now }
+    ensures rule { rule_of result ≡ option_rule takes name.entry.now }
     ensures local { result.global ≡ false }
 {
-    free_option(alloc, name, value, help).action(ArgAction::Append)
-}
-
-/// The option `--log FORM`.
-pub(crate) fn log_option<'a>(alloc: Global) -> Arg<'a>
-    ensures rule { rule_of result ≡ log_rule }
-    ensures local { result.global ≡ false }
-{
-    free_option(alloc, "log", "FORM", "The form of its log: text or json").default_value("text")
-}
-
-/// The option `--retry N`: at most [`MOST_RETRY`].
-pub(crate) fn retry_option<'a>(alloc: Global) -> Arg<'a>
-    ensures rule { rule_of result ≡ retry_rule }
-    ensures local { result.global ≡ false }
-{
-    free_option(
-        alloc,
-        "retry",
-        "N",
-        "How often a line is sent again while nothing is published, 100 ms apart; up to 9999",
-    )
-    .default_value("50")
-    .value_parser(value_parser!(u64).range(..=MOST_RETRY as i64))
-}
-
-/// The option `--columns N`: from [`LEAST_COLUMNS`] to [`MOST_COLUMNS`].
-pub(crate) fn columns_option<'a>(alloc: Global) -> Arg<'a>
-    ensures rule { rule_of result ≡ columns_rule }
-    ensures local { result.global ≡ false }
-{
-    free_option(
-        alloc,
-        "columns",
-        "N",
-        "The width of the table in columns, from 40 to 300",
-    )
-    .value_parser(value_parser!(u64).range(LEAST_COLUMNS as i64..=MOST_COLUMNS as i64))
+    let free = free_option(alloc, name, value, help);
+    let number = value_parser!(u64);
+    match takes {
+        OptionValue::Any => free,
+        OptionValue::Needed => free.required(true),
+        OptionValue::Many => free.action(ArgAction::Append),
+        OptionValue::Log => free.default_value("text"),
+        OptionValue::Number => free.required(true).value_parser(number),
+        OptionValue::Drift => free.value_parser(number.range(..=i64::from(MAX_DRIFT))),
+        OptionValue::DefaultDrift => free
+            .default_value(default_drift())
+            .value_parser(number.range(..=i64::from(MAX_DRIFT))),
+        OptionValue::Id => free.value_parser(number.range(..=MOST_ID as i64)),
+        OptionValue::Source => free
+            .required(true)
+            .value_parser(number.range(..=i64::from(MAX_SOURCE))),
+        OptionValue::Time => free.value_parser(number.range(..=MAX_TIME as i64)),
+        OptionValue::TaiOffset => free.value_parser(number.range(..=MOST_TAI_OFFSET as i64)),
+        OptionValue::Faulty => free.value_parser(number.range(..=MOST_FAULTY as i64)),
+        OptionValue::Retry => free
+            .default_value("50")
+            .value_parser(number.range(..=MOST_RETRY as i64)),
+        OptionValue::Columns => free.value_parser(number.range(
+            LEAST_COLUMNS as i64..=MOST_COLUMNS as i64,
+        )),
+    }
 }
 
 /// A flag `--NAME`.
-pub(crate) fn flag<'a>(alloc: Global, name: &'a str, help: &'a str) -> Arg<'a>
+fn flag<'a>(alloc: Global, name: &'a str, help: &'a str) -> Arg<'a>
     ensures rule { rule_of result ≡ flag_rule name.entry.now }
     ensures local { result.global ≡ false }
 {
@@ -213,7 +142,7 @@ pub(crate) fn flag<'a>(alloc: Global, name: &'a str, help: &'a str) -> Arg<'a>
 }
 
 /// A required positional argument.
-pub(crate) fn place<'a>(alloc: Global, name: &'a str, value: &'a str, help: &'a str) -> Arg<'a>
+fn place<'a>(alloc: Global, name: &'a str, value: &'a str, help: &'a str) -> Arg<'a>
     ensures rule { rule_of result ≡ place_rule name.entry.now }
     ensures local { result.global ≡ false }
 {
@@ -224,12 +153,25 @@ pub(crate) fn place<'a>(alloc: Global, name: &'a str, value: &'a str, help: &'a 
 }
 
 /// All further arguments.
-pub(crate) fn line_words<'a>(alloc: Global) -> Arg<'a>
-    ensures rule { rule_of result ≡ words_rule }
+fn further<'a>(alloc: Global, name: &'a str, value: &'a str, help: &'a str) -> Arg<'a>
+    ensures rule { rule_of result ≡ words_rule name.entry.now }
     ensures local { result.global ≡ false }
 {
-    Arg::new(alloc, "words")
-        .value_name("WORDS")
+    Arg::new(alloc, name)
+        .value_name(value)
         .action(ArgAction::Append)
-        .help("The words of one line; without them the lines of standard input")
+        .help(help)
+}
+
+/// An argument, as it is given to clap.
+pub(crate) fn arg_of<'a>(alloc: Global, row: &Row) -> Arg<'a>
+    ensures rule { rule_of result ≡ row_rule row.now }
+    ensures local { result.global ≡ false }
+{
+    match row.form {
+        Form::Option(takes) => option_of(alloc, row.name, row.value, row.help, takes),
+        Form::Flag => flag(alloc, row.name, row.help),
+        Form::Place => place(alloc, row.name, row.value, row.help),
+        Form::Words => further(alloc, row.name, row.value, row.help),
+    }
 }

@@ -151,6 +151,8 @@ pub enum Service<'a> {
         keys: Option<&'a str>,
         /// The path of its status file. None: it writes none.
         status: Option<&'a str>,
+        /// The address of its pages over HTTP, with a port above 0. None: it has none.
+        http: Option<SocketAddr>,
     },
     /// `serve`: runs a machine until it is ended.
     Serve {

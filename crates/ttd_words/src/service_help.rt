@@ -36,7 +36,9 @@ If it is refused then, the keys stay as they were, and the log says why.
 --listen takes an IPv4 or IPv6 address in its one spelling. Name the address that machines ask, not
 0.0.0.0 or [::]: an answer that comes from another address is no answer. An address that this host
 does not have yet is waited for. With --status it writes its status once a second: its answers by
-key, and the packets that it dropped.
+key, and the packets that it dropped. With --http it gives that at /metrics; /health is 200 while
+polls are answered, else 503 with the reason: a number from 2401 to 2407, clock_stepped, status_none
+or status_old, when the status is older than ten seconds. No poll waits for a reader of these pages.
 
 Acts, for tests: honest (which it is without --act), silent, garbage, repeat, 'ahead N' and
 'behind N', N in nanoseconds.
@@ -45,7 +47,7 @@ Examples:
   ttd master --source 0 --listen 127.0.0.1:7001 --uncertainty 1000000
   ttd master --source 0 --listen 10.0.0.1:7001 --uncertainty 1000000 --keys /etc/truetime/keys
   ttd master --source 0 --listen 127.0.0.1:7001 --phc /dev/ptp0 --tai-offset 37 --uncertainty 10000
-  ttd master --source 0 --listen 127.0.0.1:7001 --ntp 127.0.0.1:123
+  ttd master --source 0 --listen 127.0.0.1:7001 --ntp 127.0.0.1:123 --http 127.0.0.1:9561
   ttd master --source 0 --listen 127.0.0.1:7001 --ntp 10.0.0.5:123 --ntp 10.0.0.6:123
     --ntp [fd00::7]:123 --faulty 1 --every 64s --margin 100000 --warn-width 50000000
 
@@ -63,6 +65,7 @@ Refused:
   1829          the system gives no random bytes; the status is 4
   1831          the stack is limited to less than 2 MiB
   1501          a socket can't be had; the status is 4
+  1830          the address of --http can't be listened at; the status is 4
   1816          a thread can't be started";
 
 /// What `serve` does.

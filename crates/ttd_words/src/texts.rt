@@ -85,6 +85,7 @@ fn named_by(given: Given, command: &str) -> (&'static str, &'static str) {
         Given::Faulty => ("--faulty <N>", "faulty"),
         Given::Every => ("--every <TIME>", "every"),
         Given::MaxAge => ("--max-age <TIME>", "max-age"),
+        Given::Http => ("--http <ADDRESS:PORT>", "http"),
         _ if command == "top" => ("<FILE|ADDRESS>", "place"),
         _ => ("<ADDRESS|PATH>", "address"),
     }

@@ -9,7 +9,7 @@ ghost use Rattle.ttd_words.specs.CommandLine.{faults_of, is_service as names_one
 ghost use Rattle.ttd_words.specs.Reading.{AreForHelp, AreMistaken, AreTaken, HasAge, HasNumbers, IsMeant, IsRefused, IsUnlessMemory, Meaning, Request, age_of, ask_of, asked_of, command_named, key_of, master_of, number_at, read_of, request_in, request_named, serve_of, service_named, top_of, twin_of};
 
 use crate::faults::{Given, WordsFault};
-use crate::masters::time_asked;
+use crate::masters::{http_at, time_asked};
 use crate::requests::{Asked, Command, Service};
 use crate::tree::ttd_command;
 use crate::values::{
@@ -106,6 +106,7 @@ fn master_asked<'a>(alloc: Global, matches: &ArgMatches<'a>) -> Result<Service<'
     let listen = listen_at(matches, "listen", keys.is_some())?;
     let warn_width = number_if(matches, "warn-width", MAX_TIME)?;
     let log = log_at(matches, "log")?;
+    let http = http_at(matches)?;
     let time = time_asked(alloc, matches)?;
     Ok(Service::Master {
         source,
@@ -115,6 +116,7 @@ fn master_asked<'a>(alloc: Global, matches: &ArgMatches<'a>) -> Result<Service<'
         log,
         keys,
         status: path_at(matches, "status"),
+        http,
     })
 }
 
@@ -243,7 +245,7 @@ pub(crate) fn parsed<'a>(alloc: Global, words: &'a [&'a str]) -> Result<ArgMatch
 ///
 /// A master has exactly one of an uncertainty and NTP servers, and no option of the other. A hardware clock and how far TAI is
 /// ahead are given together, and without the options of the real-time clock. The address of a server is as
-/// that at which a master listens, of any host, with a port above 0. There are at most 16, none twice, and more than
+/// that at which a master listens, of any host, with a port above 0, as is that of its pages. There are at most 16, none twice, and more than
 /// twice as many as may be faulty. A time has a unit, as [`duration_of`](tt_settings::duration_of) reads it, and is from
 /// a millisecond to a day. The key of NTP and its file are given together.
 ///
