@@ -160,6 +160,8 @@ class Releasing(Answering):
 TIMEOUT_MS = 150
 # What the system may take off a time-out, since it counts in ticks.
 TICK_MS = 11
+# How much longer than a reply the probe in Go lets a wait take: the one is the session's time-out, the other that of the wait's context.
+GO_WAITS_LONGER_MS = 300
 COMMITS = 5
 
 
@@ -195,9 +197,9 @@ def try_session(trial, name, words, silent, full):
             if line == "now":
                 wants(trial, name, say, "close", "closed")
                 wants(trial, name, say, f"open tcp {silent} {TIMEOUT_MS}", "open")
-            what = f"{name}: {what}"
-            judge(trial, what, TIMEOUT_MS, lambda what=what, line=line: wants(trial, what, say, line, "timed out"), lambda: None,
-                  TIMEOUT_MS - TICK_MS)
+            what, longest_ms = f"{name}: {what}", TIMEOUT_MS + (GO_WAITS_LONGER_MS if line == "wait" and name.startswith("Go") else 0)
+            judge(trial, what, longest_ms, lambda what=what, line=line: wants(trial, what, say, line, "timed out"), lambda: None,
+                  longest_ms - TICK_MS)
         late.cancel()
 
 

@@ -166,8 +166,8 @@ func call(session *truetime.Session, name, rest string, timeout time.Duration) (
 		}
 		return map[bool]string{true: "yes", false: "no"}[is], err
 	}
-	// Where the time is over, the session goes on.
-	ctx, cancel := context.WithTimeout(ctx, timeout)
+	// Where the context ends, the session goes on; so it ends behind a reply that is late, which breaks the session.
+	ctx, cancel := context.WithTimeout(ctx, timeout+300*time.Millisecond)
 	defer cancel()
 	var stamp int64
 	var err error
