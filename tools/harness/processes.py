@@ -63,7 +63,7 @@ def fields_of(line):
     """The fields of a line of a log, in either form, as texts, but for the time in nanoseconds since 1970. No fields for another line."""
     fields = {}
     if line.startswith("time=") and line.endswith("\n"):
-        fields = dict(part.partition("=")[::2] for part in line.split())
+        fields = {name: value.strip('"') for name, value in re.findall(r'([a-z_]+)=("[^"]*"|\S+)', line)}
     elif line.startswith('{"time":') and line.endswith("\n"):
         fields = {name: str(value) for name, value in json.loads(line).items()}
     return fields and fields | {"time": nanoseconds_of(fields["time"])}

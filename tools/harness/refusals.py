@@ -30,7 +30,7 @@ SENTENCES = {
     1815: f"{MACHINE}no epoch: another process holds the folder",
     1819: f"{MACHINE}what is at the path of the Unix socket is not a socket",
     1827: rf"{MACHINE}the file of keys has no key with the number \d+", 1829: f"{KEYS}no random bytes",
-    1830: f"{MACHINE}the address for pages can't be listened at: {REASON}", 1831: "the stack is smaller than 2097152 bytes",
+    1830: f"({MACHINE})?the address for pages can't be listened at: {REASON}", 1831: "the stack is smaller than 2097152 bytes",
     2211: f"{KEYS}the file of keys can't be read: {REASON}", 2212: f"{KEYS}the mode of the file of keys is neither 0600 nor 0400",
     2213: f"{KEYS}the file of keys has another owner", 2214: f"{KEYS}the file of keys is too long", 2215: rf"{KEYS}line \d+ is not a key",
     2216: rf"{KEYS}the key in line \d+ has the number of an earlier one", 2411: "no line has the number of the key",

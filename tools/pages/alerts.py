@@ -17,7 +17,7 @@ the top of the rules, as `truetime:round_seconds`, are those of the fleet of [OP
 section 3 says how statuses reach Prometheus, [metrics](metrics.md) and [events](events.md) what each name means.
 
 What machines see of one master is a ticket for each fleet, not for each machine. N is then how many of them see it, and the query at the \
-end of what to do lists them. A fleet is the machines of one `job` of Prometheus, which ask the same masters.
+end of what to do lists them; `truetime_source_info` has the address of each master. A fleet is the machines of one `job` of Prometheus, which ask the same masters.
 
 """
 # How the labels and the value of an alert are shown.

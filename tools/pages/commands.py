@@ -14,7 +14,8 @@ Options follow the command, in any order, each once; `..` marks what may be give
 Behind `--` no word is an option. [FORMATS.md](../FORMATS.md), section 3, has what holds for all commands, and [refusals](refusals.md) what each number means.
 
 """
-CALL = re.compile(r"\b(\w+_command|\w+_option|flag|place|line_words)\(", re.DOTALL)
+CALL = re.compile(r"\b(\w+_command|with_rows)\(", re.DOTALL)
+ROW = re.compile(rf"Row \{{\s*name: {STRING},\s*value: {STRING},\s*help: {STRING},\s*form: Form::(\w+)(?:\(OptionValue::(\w+)\))?,?\s*\}}")
 
 
 class Commands:
@@ -48,42 +49,38 @@ class Commands:
                 end += 1
             inner, bound = text[found.end():end], re.search(r"let (\w+) = $", text[:found.start()])
             use = re.search(rf"\b{bound[1]}\b", bare[end:]) if bound else None
-            yield end + use.start() if use else found.start(), (found[1], [unescaped(one) for one in re.findall(STRING, inner)], inner)
+            place = end + use.start() if use else end if found[1] == "with_rows" else found.start()
+            yield place, (found[1], [unescaped(one) for one in re.findall(STRING, inner)], inner)
 
     def walk(self, name):
         """The commands and options that a function makes, in their order."""
         for call, strings, inner in self.calls(self.body(self.commands, name)):
             if call == "plain_command":
                 yield "command", strings, self.helps[re.search(r"ABOUT_\w+", inner)[0]]
-            elif call.endswith("_command") and f"fn {call}<" in self.commands:
+            elif call == "with_rows":
+                for row in self.rows(re.search(r"&([A-Z]+)", inner)[1]):
+                    yield "option", *row
+            elif f"fn {call}<" in self.commands:
                 yield from self.walk(call)
-            elif not call.endswith("_command"):
-                yield "option", *self.option(call, strings)
 
-    def option(self, call, strings):
+    def rows(self, name):
+        """The options of a table: how each is written in a usage, and what its help says."""
+        table = re.search(rf"^const {name}: \[Row; (\d+)\] = (.*?)^\}}?\];$", self.commands, re.MULTILINE | re.DOTALL)
+        found = ROW.findall(table[0])
+        if len(found) != int(table[1]):
+            raise Missing(f"{name} has {len(found)} rows that are read")
+        for option, value, words, form, takes in found:
+            yield self.option(option, value, unescaped(words), form, takes)
+
+    def option(self, name, value, words, form, takes):
         """How an option is written in a usage, and what its help says."""
-        text = self.body(self.options, call)
-        inner = list(self.calls(text))
-        name, value, words = self.given(call, strings or (inner[0][1] if inner else re.findall(STRING, text)))
-        text += self.body(self.options, inner[0][0]) if inner else ""
+        text = self.body(self.options, "option_of").partition(f"OptionValue::{takes} =>")[2].partition("OptionValue::")[0] if takes else ""
         default = re.search(rf"\.default_value\((?:{STRING}|(\w+)\(\))\)", text)
         if default:
             words += f" [default: {default[1] or re.search(STRING, self.body(self.options, default[2]))[1]}]"
-        shown = value if call in ("place", "line_words") else f"--{name}" + (f" {value}" if value else "")
-        shown += ".." if call in ("many_option", "line_words") else ""
-        return shown if ".required(true)" in text else f"[{shown}]", words
-
-    def given(self, call, strings):
-        """The name of an option, the name of its value, and its help."""
-        if call == "flag":
-            return strings[0], "", strings[1]
-        if call == "id_option":
-            return strings[0], "N", strings[1]
-        if call == "time_option":
-            return strings[0], "NS", strings[1]
-        if len(strings) < 3:
-            raise Missing(f"{call} has only {strings}")
-        return strings[0], strings[1], strings[2]
+        shown = value if form in ("Place", "Words") else f"--{name}" + (f" {value}" if value else "")
+        shown += ".." if "ArgAction::Append" in text or form == "Words" else ""
+        return shown if form == "Place" or ".required(true)" in text else f"[{shown}]", words
 
 
 def page():

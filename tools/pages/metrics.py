@@ -8,7 +8,7 @@ NAME = "metrics.md"
 HEAD = """\
 # Metrics
 
-This page, made by `tools/reference`, lists the metrics in the status of a machine and of a master, and the pages that a machine gives at `http`.
+This page, made by `tools/reference`, lists the metrics in the status of a machine and of a master, and the pages that they give over HTTP.
 
 The status is in Prometheus' text format (0.0.4). Times are in seconds. `NaN` stands for what is not known yet. \
 A counter never falls within a life of the machine. A histogram has samples by `_bucket` (with the label `le`), `_sum` and `_count`. \
@@ -17,7 +17,7 @@ The label `number` is that of a [refusal](refusals.md), and `server` counts from
 
 """
 PAGES = """
-## The pages at `http`
+## The pages over HTTP
 
 A machine answers one request of HTTP/1.0 or 1.1 a connection, from this host, and from others where the address is not of loopback: GET, or HEAD for the head alone. Fields, and in a path what \
 follows `?`, are ignored. A head has at most 4,096 bytes and 64 fields. A connection is closed after two seconds, and the first of eight if \
@@ -38,8 +38,19 @@ page runs and fetches nothing (`Content-Security-Policy`). A line of `/health` b
 - `sources_stale:` `truetime_needed_answer_age_seconds` is above 3 (`poll` + `wait`), or NaN
 - `sharing_ended:` `truetime_sharing` is 0, and `shared` is set
 - `status_old:` the status is older than 10 (`poll` + `wait`) and a second
+
+For ten minutes after a break (`truetime_last_break_timestamp_seconds`) it also has `last_life_broke N s ago: EVENT`, with either code.
+
+A master does the same at `--http`, without evidence; `/` is a line of text. It looks once a second whether it would answer a poll. A line of its `/health` begins with
+
+- `2401:` to `2407:` it answers none, by that [refusal](refusals.md)
+- `clock_stepped:` it answers none (2408)
+- `status_none:` it has no status yet
+- `status_old:` the status is older than ten seconds
 """
 CALLS = {"push_histogram": "Histogram", "push_width": "Gauge"}
+# A label that a metric adds without a subject.
+OWN_LABEL = re.compile(r'(?:text, "|",)(\w+)(?:"|=\\")')
 METRIC = re.compile(rf'"(truetime_\w+)"(?=[,;][^"]*{STRING})')
 
 
@@ -104,6 +115,7 @@ class Metrics:
                 cell = f"`{label}`" + (f" ({values})" if values else "")
                 if label != "le" and cell not in shown:
                     shown.append(cell)
+        shown += [f"`{label}`" for label in OWN_LABEL.findall(text)]
         kind = found.lower()
         if not kind:
             raise Missing(f"the metric {name} has no type")
@@ -115,22 +127,33 @@ class Metrics:
         starts = [found.start() for found in METRIC.finditer(text) if " " in found[2]]
         for start in starts:
             is_row = text[:start].endswith("name: ")
-            part = re.match(r".*?(?=\n +\},)" if is_row else r".*?(?=\n\}\n)", text[start:], re.DOTALL)[0]
+            part = re.match(r".*?(?=\n +\}\]?,)" if is_row else r".*?(?=\n\}\n)", text[start:], re.DOTALL)[0]
             after = [other - start for other in starts if start < other < start + len(part)]
             part = part[:min(after, default=len(part))]
             call = re.search(r"(push_\w+)\([^\"()]*$", text[:start])
-            helpers = [] if is_row else [name for name in re.findall(r"(push_\w+)\(", part) if f"fn {name}(" in text]
+            helpers = [] if is_row else helpers_of(text, part)
             kind = re.search(r"Kind::(\w+)", part)
             found = CALLS.get(call[1], "") if call and not is_row else ""
             part += "".join(" ".join(function(text, name)) for name in helpers)
             yield self.row(first, METRIC.match(text, start)[1], part, METRIC.match(text, start)[2], found or (kind[1] if kind else ""))
 
 
+def helpers_of(text, part):
+    """The functions of a source file that a part of it calls, and those that they call, in order."""
+    found, parts = [], [part]
+    for one in parts:
+        for name in re.findall(r"(push_\w+)\(", one):
+            if name not in found and f"fn {name}(" in text:
+                found.append(name)
+                parts.append(" ".join(function(text, name)))
+    return found
+
+
 def page():
     """The text of the page."""
     metrics = Metrics()
     heads = ["name", "type", "labels", "what it says"]
-    machine = [*metrics.rows("statuses.rt", "machine"), *metrics.rows("slewings.rt", "machine")]
+    machine = [*(row for file in ("statuses.rt", "breaks.rt", "slewings.rt", "services.rt", "infos.rt") for row in metrics.rows(file, "machine"))]
     master = [*metrics.rows("master_statuses.rt", "source"), *metrics.rows("server_statuses.rt", "source")]
     names = {row[0].strip("`") for row in machine + master}
     for name in metrics.words:

@@ -49,6 +49,7 @@ ROWS = {
         "Packets that did not open, and strangers'": ("ops", {"+source_packets_unopened_total": "source {{source}} {{number}}",
                                                               "+strangers_total": "strangers"}),
         "Keys": ("short", {"source_key": "source {{source}}"}),
+        "Addresses": ("short", {"source_info": "="}),
     },
     "Clients": {
         "Lines and sessions": ("ops", {"+lines_total": "lines", "+lines_refused_total": "refused", "+sessions_total": "sessions",
@@ -69,7 +70,8 @@ ROWS = {
                                    "=truetime:warn_width_seconds < Inf": "=--warn-width"}),
         "Versions and keys of masters": ("short", {
             '=truetime_master_keys{instance=~"$instance"} * on (instance, source) group_left (version) truetime_master_build_info{instance=~"$instance"}':
-                "={{instance}} {{source}} {{version}}"}),
+                "={{instance}} {{source}} {{version}}",
+            "=increase(truetime_master_keys_refused_totalS[1h])": "files refused"}),
         "Servers that give no time": ("short", {f"master_server_{name}": f"server {{{{server}}}} {name}" for name in ("silence", "stratum", "leap")}),
         "Widths of servers": ("s", {"master_server_root_distance_seconds": "server {{server}} root distance",
                                     "master_server_age_seconds": "server {{server}} age", "master_server_width_seconds": "server {{server}} width"}),
@@ -81,7 +83,7 @@ ROWS = {
 OTHERS = {
     "Alerts that fire": ("stat", [("green", None), ("red", 1)], [{}]),
     "Machines": ("stat", [], [{}]),
-    "Versions": ("table", [], [{"format": "table", "instant": True}]),
+    **dict.fromkeys(("Versions", "Addresses"), ("table", [], [{"format": "table", "instant": True}])),
 }
 OF_MACHINE, OF_MASTER = '{machine=~"$machine", instance=~"$instance"}', '{instance=~"$instance"}'
 

@@ -66,6 +66,7 @@ WANTED = {
     "TruetimeWide": ("truetime_width_seconds > 0.5 * scalar(truetime:max_width_seconds)", "15s", PAGE),
     "TruetimeMasterSilent": (risen('master_unanswered_total{number=~"24.."}', "2m"), "2m", TICKET),
     "TruetimeMasterWide": ("truetime_master_width_seconds > scalar(truetime:warn_width_seconds)", "1m", TICKET),
+    "TruetimeMasterKeysRefused": (risen("master_keys_refused_total", "15m"), AT_ONCE, TICKET),
     "TruetimeNotSharing": ("truetime_sharing == 0", "1m", TICKET),
     "TruetimeSleepUnseen": ("truetime_sleep_unseen == 1", "1m", TICKET),
     "TruetimeSlewedTooFast": ("truetime_slewed_base_withdrawn == 1", "2m", TICKET),
@@ -108,6 +109,7 @@ SHOWN = {
     "TruetimeStatusOld": {"file", "instance", "duration"}, "TruetimeStatusGone": {"file", "instance"},
     "TruetimeMasterStatusOld": {"file", "instance"}, "TruetimeRestarted": OF_MACHINE | {"value"},
     "TruetimeWide": OF_MACHINE | {"duration"}, "TruetimeMasterSilent": OF_MASTER | {"number"}, "TruetimeMasterWide": OF_MASTER | {"duration"},
+    "TruetimeMasterKeysRefused": OF_MASTER,
     "TruetimeSessionsFull": OF_MACHINE | {"value"}, "TruetimeCommitWait": OF_MACHINE | {"duration"},
 }
 VALUES = {"$value": "value", "$value | humanizeDuration": "duration"}

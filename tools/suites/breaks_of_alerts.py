@@ -5,11 +5,12 @@ import os
 import re
 import socket
 import subprocess
+import time
 import urllib.parse
 import urllib.request
 
 from harness.faults import disrupt, page
-from harness.processes import free_port
+from harness.processes import SECOND, free_port
 from harness.program import in_top, read_text, run, write
 from suites.breaks import suite
 from suites.breaks_world import World
@@ -83,21 +84,25 @@ def broken_life_is_told(trial):
     world = World(trial, vmclock=path, http=f"127.0.0.1:{port}")
     if not eventually(lambda: get(port, "/health").text == "ok\n", 20):
         yield f"before any break: {get(port, '/health')}"
-    if world.number("last_break_timestamp_seconds") is None:
-        trial.note("the status does not say when a life broke: left out")
-        return
-    ended, status = world.end(disrupt(path, 2))
+    if (early := world.number("last_break_timestamp_seconds")) is not None:
+        yield f"before any break the status tells of one at {early}"
+    since = disrupt(path, 2)
+    ended, status = world.end(since)
     if not ended or status != 3:
         yield f"the break: status {status}"
 
     def told():
         with contextlib.suppress(OSError, ValueError):
             answer = get(port, "/health")
-            return answer.words == "200 OK" and re.fullmatch(r"ok\nlast_life_broke \d+ s ago: assumption_broken\n", answer.text)
+            line = re.fullmatch(r"ok\nlast_life_broke (\d+) s ago: guest_disrupted\n", answer.text)
+            return answer.words == "200 OK" and line and (since - time.time_ns()) // SECOND <= -int(line[1]) <= 0
         return None
 
     if not eventually(told, 20):
         yield f"after the break: {get(port, '/health')}"
+    broke = world.number("last_break_timestamp_seconds") or 0
+    if not since / SECOND - 0.001 <= broke <= ended / SECOND + 0.001:
+        yield f"the status says {broke}, and the life ended from {since / SECOND} to {ended / SECOND}"
     ran = run([trial.program, "top", world.node.path("node.toml"), "--once"], cwd=world.node.folder)
-    if not re.search(r"^! the last life broke +\d+\.\d{3} ( s|ms) ago: assumption_broken$", ran.said, re.M):
+    if not re.search(r"^! the last life broke +\d+\.\d{3} ( s|ms) ago: guest_disrupted$", ran.said, re.M):
         yield f"top: {ran.said}{ran.error}"

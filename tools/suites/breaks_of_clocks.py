@@ -2,13 +2,14 @@
 import contextlib
 import os
 import random
+import re
 import signal
 import socket
 import time
 
 from harness.faults import Spoils, disrupt, honest, page
 from harness.processes import SECOND, raw_ns, truetime
-from harness.program import read, run, write
+from harness.program import read, read_text, run, write
 from harness.users import is_closed_within
 from suites.breaks import suite
 from suites.breaks_world import MILLISECOND, Pair, World
@@ -348,8 +349,9 @@ def breaks_in_a_row(trial):
             yield f"after break {marker - 1} the status tells of {told} lives that ended so"
     if paused != [SECOND // 10 << number for number in range(4)]:
         yield f"the starts paused for {paused} ns"
-    if not (text := read(world.node.path("state/break"))).startswith(b"tt-break 2 4 ") or not text.endswith(b" 4\n"):
-        yield f"state/break has {text!r}"
+    text = read(world.node.path("state/break"))
+    if not (record := re.fullmatch(rb"tt-break 3 4 \d+ 4 (\d+) 3\n", text)) or not since <= int(record[1]) <= time.time_ns():
+        yield f"state/break has {text!r}, and the last break came behind {since}"
 
 
 def pause_of(trial, name, record):
@@ -371,10 +373,36 @@ def records_of_breaks(trial):
     for number, (breaks, clock, pause) in enumerate(wanted):
         if (seen := pause_of(trial, f"{number}", b"tt-break 2 %d %d 5\n" % (breaks, clock))) != pause:
             yield f"after {breaks} breaks, the last one at {clock} and now at {now}, it pauses for {seen} ns"
-    if pause := pause_of(trial, "other", b"tt-break 1 1 1\n"):
+    for name, record in (("first", b"tt-break 1 2 %d\n"), ("third", b"tt-break 3 2 %d 5 1 1\n")):
+        if (pause := pause_of(trial, name, record % now)) != 200_000_000:
+            yield f"after the record {record % now!r} it pauses for {pause} ns"
+    if pause := pause_of(trial, "other", b"tt-break 4 1 %d 5\n" % now):
         yield f"after another text it pauses for {pause} ns"
-    # What was counted stays so, however long ago the last one was.
-    node = trial.node(trial.masters(3), "long-ago")
-    write(node.path("state/break"), b"tt-break 2 1 %d 5\n" % wanted[5][1])
+
+
+def told_of(trial, name, record):
+    """What the status tells of breaks before, where a start finds this record: its lives, and the lines of the last one."""
+    node = trial.node(trial.masters(3), name)
+    write(node.path("state/break"), record)
     node.run()
-    yield from node.comes_to("broken_lives_total", 5, 6)
+    node.wait_until_ready()
+    number = eventually(lambda: node.status()["truetime_epoch"]) and node.status()["truetime_broken_lives_total"]
+    lines = [line for line in read_text(node.path("status")).splitlines() if line.startswith("truetime_last_break")]
+    node.kill()
+    return number, lines
+
+
+@suite.case()
+def records_of_all_versions(trial):
+    """What was counted stays so, however long ago it was, and by records of older versions. When and why is told as far as the record has it."""
+    at, time_line = 1_700_000_000_123_456_789, 'truetime_last_break_timestamp_seconds{machine="0"} 1700000000.123456789'
+    event = 'truetime_last_break_info{machine="0",event="%s"} 1'
+    for name, record, lives, lines in (
+            ("v1", b"tt-break 1 3 1\n", 3, []), ("v2", b"tt-break 2 1 1 5\n", 5, []),
+            ("unmet", b"tt-break 3 1 1 6 %d 1\n" % at, 6, [time_line, event % "assumption_broken"]),
+            ("slept", b"tt-break 3 1 1 7 %d 2\n" % at, 7, [time_line, event % "host_slept"]),
+            ("disrupted", b"tt-break 3 1 1 8 %d 3\n" % at, 8, [time_line, event % "guest_disrupted"]),
+            ("newer", b"tt-break 3 1 1 9 %d 4\n" % at, 9, [time_line]),
+            ("none", b"tt-break 4 1 1 9 %d 1\n" % at, 0, []), ("short", b"tt-break 3 1 1 9 %d\n" % at, 0, [])):
+        if (told := told_of(trial, name, record)) != (lives, lines):
+            yield f"after {record!r} the status tells {told}, and {(lives, lines)} is wanted"

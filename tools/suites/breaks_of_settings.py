@@ -1,6 +1,7 @@
 """Scenarios of the suite `breaks`: `on_break`, `max_width`, the evidence of each round, and time namespaces."""
 import contextlib
 import os
+import re
 import socket
 import threading
 import time
@@ -43,12 +44,14 @@ def stays_down(trial):
         yield f"it ends with status {status}"
     if not (line := world.line("guest_disrupted", since)) or line["level"] != "error":
         yield f"it was told by {line}"
+    if "by on_break the machine stays down" not in world.node.end_of_log():
+        yield "standard error does not say that it stays down"
     time.sleep(1)
     if wrong := world.users.wrong():
         yield f"{len(wrong)} wrong readings"
     if late := [got for got in world.users.readings if got.before > ended]:
         yield f"{len(late)} readings behind its end"
-    if not (text := read(world.node.path("state/break"))).endswith(b" 1\n"):
+    if not re.fullmatch(rb"tt-break 3 1 \d+ 1 \d+ 3\n", text := read(world.node.path("state/break"))):
         yield f"state/break has {text!r}"
     world.node.running.stdin.close()
     world.node.run()

@@ -4,10 +4,10 @@ import re
 from harness.program import read_text
 from harness.refusals import SENTENCES
 from suites.examples import suite
-from suites.wiring_checks import BUCKETS, EVENTS, FIRST, LAST, OF_MASTERS, OF_SOURCES, SETTINGS
+from suites.wiring_checks import BUCKETS, EVENTS, FIRST, LAST, OF_BREAKS, OF_MASTERS, OF_SOURCES, SETTINGS
 
 # The metrics of a machine and of a master that the checks of `wiring` do not look at by a name.
-OTHERS = {f"truetime_{name}" for name in ("build_info", "master_build_info", "master_keys", "master_answers_total", "master_dropped_total")}
+OTHERS = {f"truetime_{name}" for name in ("build_info", "source_info", "master_build_info", "master_keys", "master_keys_refused_total", "master_answers_total", "master_dropped_total")}
 
 # The names of some refusals, the first and the last among them.
 KNOWN = {1: "Memory", 504: "NoPoint", 1605: "WriteFailed", 1709: "WriteLasts"}
@@ -58,6 +58,9 @@ def explained_refusals(trial):
         trial.equal(f"explain {word}", (ran.answer, ran.error), (("refused 1601\n", 2), told))
     trial.equal("explain alone", trial.command("explain").answer, ("refused 1601\n", 2))
     trial.equal("explain of two", trial.command("explain", "1", "101").answer, ("refused 1601\n", 2))
+    for words in (("help", "explain"), ("explain", "--help"), ("explain", "-h")):
+        ran = trial.command(*words)
+        trial.equal(" ".join(words), (ran.said.split("\n")[2], ran.status), ("Usage: ttd explain <NUMBER>", 0))
     trial.count(pages=1)
 
 
@@ -66,7 +69,7 @@ def pages_of_names(trial):
     """The settings, events and metrics are those that the suite `wiring` looks at, and no refusal that a test knows is missing."""
     trial.equal("settings", [row[0] for row in rows("settings")], [*SETTINGS, "address", "key"])
     trial.equal("events", {row[0]: " ".join([row[1], *re.findall(r"\w+", row[2])]) for row in rows("events")}, EVENTS)
-    names = [*FIRST.values(), *OF_SOURCES.values(), *LAST.values(), *BUCKETS.values(), *OF_MASTERS.values()]
+    names = [*FIRST.values(), *OF_SOURCES.values(), *LAST.values(), *OF_BREAKS.values(), *BUCKETS.values(), *OF_MASTERS.values()]
     wanted = {re.sub(r"_(bucket|sum|count)$", "", name.partition("{")[0]) for name in names} | OTHERS
     trial.equal("refusals that are not there", {str(number) for number in SENTENCES} - {row[0] for row in rows("refusals")}, set())
     trial.equal("metrics", {row[0] for row in rows("metrics")}, wanted)

@@ -466,6 +466,10 @@ def try_upgrade(trial, host):
         exe = os.readlink(f"/proc/{master.pid}/exe")
         trial.check("a master goes on through the upgrade", master.poll() is None and exe.endswith("/usr/bin/ttd (deleted)"), exe)
     trial.equal("kept by the upgrade", {name for name in KEPT if host.exists(name)}, KEPT)
+    write(f"{host.root}/systemctl.log", b"")
+    ran = host.do("/var/lib/dpkg/info/truetime.postrm", "upgrade", "0.2")
+    told = read_text(f"{host.root}/systemctl.log").splitlines()
+    trial.equal("systemctl, behind the units of a version that reads none again", (ran.status, told), (0, ["--system daemon-reload"]))
 
 
 # A user of what is installed.

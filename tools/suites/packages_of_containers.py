@@ -83,14 +83,27 @@ def keys_of(name):
 
 
 def wrong_master(spec, name, source, port):
-    args = ["master", "--source", source, "--listen", f"$(HOST_IP):{port}", "--uncertainty", "1000000", "--keys", "/etc/truetime/keys/keys"]
+    args = ["master", "--source", source, "--listen", f"$(HOST_IP):{port}", "--ntp", "127.0.0.1:123", "--http", "127.0.0.1:9561",
+            "--keys", "/etc/truetime/keys/keys"]
     yield from wrong_pod(name, spec, args, [keys_of(name)])
     yield from differs(f"{name}: copies", (spec["replicas"], spec["strategy"]), (1, {"type": "Recreate"}))
     pod = spec["template"]["spec"]
     yield from differs(f"{name}: node", pod["nodeSelector"], {"truetime.example/master": source})
     yield from differs(f"{name}: address", pod["containers"][0]["env"], [{"name": "HOST_IP", "valueFrom": {"fieldRef": {"fieldPath": "status.hostIP"}}}])
-    yield from differs(f"{name}: ports", pod["containers"][0]["ports"],
-                       [{"name": "polls", "containerPort": port, "hostPort": port, "protocol": "UDP"}])
+    [container] = pod["containers"]
+    yield from differs(f"{name}: ports", container["ports"],
+                       [{"name": "polls", "containerPort": port, "hostPort": port, "protocol": "UDP"}, pages_at("127.0.0.1", 9561)])
+    yield from wrong_probes(name, container, "127.0.0.1", 9561)
+
+
+def pages_at(host, port):
+    """The port of pages, at an address of the node."""
+    return {"name": "pages", "containerPort": port, "hostPort": port, "hostIP": host, "protocol": "TCP"}
+
+
+def wrong_probes(name, container, host, port):
+    for probe, path in ("readinessProbe", "/health"), ("livenessProbe", "/metrics"):
+        yield from differs(f"{name}: {probe}", container[probe]["httpGet"], {"host": host, "port": port, "path": path})
 
 
 def wrong_machine(spec, settings):
@@ -103,10 +116,8 @@ def wrong_machine(spec, settings):
                        [STATE, *(f"{RUN}/{name}" for name in ("time", "socket", "status.prom", "evidence")), "/etc/truetime/keys/keys"])
     host, _, port = settings["http"].partition(":")
     [container] = spec["template"]["spec"]["containers"]
-    for probe, path in ("readinessProbe", "/health"), ("livenessProbe", "/metrics"):
-        yield from differs(f"machine: {probe}", container[probe]["httpGet"], {"host": host, "port": int(port), "path": path})
-    yield from differs("machine: ports", container["ports"],
-                       [{"name": "pages", "containerPort": int(port), "hostPort": int(port), "hostIP": host, "protocol": "TCP"}])
+    yield from wrong_probes("machine", container, host, int(port))
+    yield from differs("machine: ports", container["ports"], [pages_at(host, int(port))])
 
 
 def wrong_compose(found):

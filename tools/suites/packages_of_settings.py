@@ -25,6 +25,7 @@ ALONE = {
 }
 ENDLESS = {"StartLimitIntervalSec": "0"}
 STARTED_AGAIN = {"Restart": "on-failure", "RestartSec": "200ms", "RestartPreventExitStatus": "2"}
+LOGGED = {"StandardOutput": "null", "StandardError": "journal", "SyslogLevel": "err", "SyslogIdentifier": "%N"}
 STARTED_WITH_HOST = {"WantedBy": "multi-user.target"}
 RUN = "/usr/libexec/truetime/run /usr/bin/ttd "
 LOOK_AFTER = "Time service, look after machine %i"
@@ -39,7 +40,7 @@ WANTED = {
             "TimeoutStopSec": "5s",
             "ExecStartPost": "-/usr/libexec/truetime/await /etc/truetime/%i.toml",
             "ExecReload": ["/usr/bin/ttd serve --check /etc/truetime/%i.toml", "+/usr/bin/systemctl --no-block restart truetime@%i.service"],
-            **STARTED_AGAIN, "RestartForceExitStatus": "3",
+            **STARTED_AGAIN, **LOGGED, "RestartForceExitStatus": "3",
             "StateDirectory": "truetime/%i", "StateDirectoryMode": "0700",
             "RuntimeDirectory": "truetime/%i", "RuntimeDirectoryMode": "0755", "RuntimeDirectoryPreserve": "yes", "UMask": "0022",
             **ALONE, "RestrictAddressFamilies": "AF_INET AF_INET6 AF_UNIX", "ProcSubset": "all",
@@ -53,7 +54,7 @@ WANTED = {
             "Type": "exec", "User": "truetime", "Environment": ["TIME=--uncertainty", "UNCERTAINTY=", "OPTIONS="],
             "EnvironmentFile": "/etc/truetime/%i.master",
             "ExecStart": RUN + "master --source ${SOURCE} --listen ${LISTEN} $TIME $UNCERTAINTY $OPTIONS",
-            **STARTED_AGAIN, "RuntimeDirectory": "truetime-master/%i", "RuntimeDirectoryMode": "0755", "UMask": "0022",
+            **STARTED_AGAIN, **LOGGED, "RuntimeDirectory": "truetime-master/%i", "RuntimeDirectoryMode": "0755", "UMask": "0022",
             **ALONE, "RestrictAddressFamilies": "AF_INET AF_INET6", "ProcSubset": "pid", "MemoryMax": "64M", "TasksMax": "24",
         },
         "Install": STARTED_WITH_HOST,
@@ -93,7 +94,7 @@ MACHINE = {
     "state": "/var/lib/truetime/a", "shared": "/run/truetime/a/time", "socket": "/run/truetime/a/socket",
     "status": "/run/truetime/a/status.prom", "evidence": "/run/truetime/a/evidence",
 }
-MASTER = ["SOURCE=0", "LISTEN=127.0.0.1:5701", "UNCERTAINTY=1000000", "OPTIONS=--status /run/truetime-master/time/status.prom"]
+MASTER = ["SOURCE=0", "LISTEN=127.0.0.1:5701", "TIME=--ntp 127.0.0.1:123", "OPTIONS=--status /run/truetime-master/time/status.prom"]
 
 
 def lines_of(name):

@@ -427,6 +427,7 @@ def booted(trial):
     put(host, GOOD)
     for source in range(3):
         text = read_text("packaging/time.master").replace("SOURCE=0", f"SOURCE={source}").replace(":5701", f":570{source + 1}")
+        text = text.replace("TIME=--ntp 127.0.0.1:123", "UNCERTAINTY=1000000")  # no chronyd answers there
         write(f"{host.root}/etc/truetime/m{source}.master", text.replace("/time/", f"/m{source}/").encode())
     host.systemctl("daemon-reload")
     trial.equal("masters", host.systemctl("start", *(f"truetime-master@m{source}" for source in range(3))), ("", 0))
@@ -573,6 +574,9 @@ def try_bad_files(trial, host):
         is_failed = eventually(lambda unit=unit: host.systemctl("is-active", unit)[0] == "failed")
         shown = sorted(host.systemctl("show", "-p", "ExecMainStatus", "-p", "NRestarts", unit)[0].split())
         trial.equal(f"{unit}, with a bad file", (bool(is_failed), shown), (True, ["ExecMainStatus=2", "NRestarts=0"]))
+        host.do("journalctl", "--sync")
+        said = host.do("journalctl", "--no-pager", "-o", "cat", "-p", "err", "-t", unit).said
+        trial.check(f"{unit}: why, among the errors of that name", "ttd: refused 1" in said, f"the journal has {said[-300:]!r}")
 
 
 def try_standing(trial, host):

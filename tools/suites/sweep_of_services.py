@@ -38,7 +38,7 @@ ENDED_BY_SIGNALS = "FAIL_RECV", "FAIL_SEND", "FAIL_RECVFROM", "FAIL_SENDTO", "FA
 UNCERTAINTY, SOURCE, POLLS = 1_000_000, 5, 4
 LEASE = "0 4000000000000000000"
 COUNT = struct.Struct("24sQ")
-LOG_LINE = re.compile(rb"time=[-0-9]{10}T[:0-9]{8}\.[0-9]{9}Z level=(info|warn|error) event=[a-z_]+( [a-z_]+=[0-9]+)*\Z|ttd: ")
+LOG_LINE = re.compile(rb"time=[-0-9]{10}T[:0-9]{8}\.[0-9]{9}Z level=(info|warn|error) event=[a-z_]+( [a-z_]+=[0-9]+| text=\"[^\"]+\"| address=[^ ]+)*\Z|ttd: ")
 DEVICES = {803, 1501, 1604, 1605, 1701, 1807, 1808, 1809, 1811, 1812, 1830}
 
 # What may be refused at the start where a call of this kind fails. Memory that a thread wants may show as 1816.

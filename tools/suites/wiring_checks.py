@@ -1,5 +1,6 @@
 """What the suite `wiring` checks, by the names of docs/reference/, and what its scenarios share."""
 import contextlib
+import functools
 import itertools
 import os
 import re
@@ -10,7 +11,7 @@ from decimal import Decimal
 from harness.faults import FakeMaster, Spoils, answer, honest
 from harness.metrics import faults_in
 from harness.processes import SECOND, Process, fields_of, truetime
-from harness.program import read_text, run
+from harness.program import in_top, read_text, run
 from harness.trial import Trial
 from harness.wire import answer_to, poll_in, request_in, sealed
 
@@ -19,7 +20,7 @@ from harness.wire import answer_to, poll_in, request_in, sealed
 SETTINGS = """machine masters faulty workers drift clock slew poll wait floor_ahead idle lease_lo lease_hi stampers listen http log on_break max_width state socket
 shared status evidence vmclock keys master""".split()
 OPTIONS = """source listen uncertainty offset act log keys status id name ntp faulty margin every drift max-age ntp-key ntp-keys local phc
-tai-offset warn-width""".split()
+tai-offset warn-width http""".split()
 ACTS = "honest ahead behind silent garbage repeat".split()
 
 # The numbers of the status in their order, by the names that the checks use: those before the ones of each source, these, and the others.
@@ -60,6 +61,8 @@ LAST = {
     "widths": "truetime_reading_width_seconds_sum", "widths_counted": "truetime_reading_width_seconds_count",
     "sharing": "truetime_sharing", "left_out": "truetime_records_left_out_total",
 }
+# The numbers that are there if a life before has broken.
+OF_BREAKS = {"last_break": "truetime_last_break_timestamp_seconds", "last_break_info": 'truetime_last_break_info{event="guest_disrupted"}'}
 # The buckets of histograms, which stand before their sums.
 BUCKETS = {"commit_buckets": "truetime_commit_wait_seconds_bucket", "answer_buckets": "truetime_round_trip_seconds_bucket",
            "width_buckets": "truetime_reading_width_seconds_bucket"}
@@ -77,20 +80,23 @@ OF_MASTERS = {
 # The numbers of a publication in the shared file, as clients/python names them.
 SHARED = truetime.Publication._fields
 
-# The level and the numbers of each event of the log.
+# The level and the fields of each event of the log, but for `left_out`.
 EVENTS = {
     "started": "info machine epoch port", "first_publication": "info width_ns", "sharing_resumed": "info", "ended": "info",
-    "master_started": "info source port", "source_silent": "warn source", "source_suspect": "warn source", "source_unsent": "warn source",
-    "fusion_refused": "warn number", "round_failed": "warn number", "sharing_ended": "warn number", "socket_renewed": "warn number pause_ns",
+    "master_started": "info source port", "source_silent": "warn source address", "source_suspect": "warn source address", "source_unsent": "warn source address",
+    "fusion_refused": "warn number text", "round_failed": "warn number text", "sharing_ended": "warn number text", "socket_renewed": "warn number pause_ns text",
     "publication_slow": "warn lasted_ns", "clock_back": "warn", "status_unwritten": "warn errno", "not_accepted": "warn errno",
-    "state_loose": "warn", "epoch_loose": "warn", "shared_loose": "warn", "answers_refused": "warn count", "master_failed": "warn number",
+    "state_loose": "warn", "epoch_loose": "warn", "shared_loose": "warn", "answers_refused": "warn count", "master_failed": "warn number text",
     "assumption_broken": "error clock_ns lower_ns upper_ns last_lower_ns last_upper_ns", "host_slept": "error slept_ns",
     "guest_disrupted": "error", "sleep_unseen": "warn", "descriptors": "info limit needed sessions", "sources_stale": "warn answered needed", "start_paused": "warn pause_ns breaks",
-    "evidence_unwritten": "warn errno", "keys_read": "info keys", "keys_refused": "warn number line", "polls_unopened": "warn count", "address_awaited": "warn pause_ns",
-    "stranger": "warn address", "source_unresolved": "warn source", "source_resolved": "info source address",
-    "master_silent": "warn number", "master_answers": "info", "width_above": "warn width_ns limit_ns", "clock_stepped": "error",
-    "server_refused": "warn server number", "server_silent": "warn server",
+    "evidence_unwritten": "warn errno", "keys_read": "info keys", "keys_refused": "warn number line text", "polls_unopened": "warn count", "address_awaited": "warn pause_ns",
+    "stranger": "warn address", "source_unresolved": "warn source address", "source_resolved": "info source address",
+    "master_silent": "warn number text", "master_answers": "info", "width_above": "warn width_ns limit_ns", "clock_stepped": "error",
+    "server_refused": "warn server number text address", "server_silent": "warn server address",
     "slew_too_fast": "warn rate_ppm slew_ppm", "slew_in_bounds": "info",
+    "source_answers": "info source address", "status_written": "info", "evidence_written": "info", "width_in_bounds": "info", "stood_still": "warn lasted_ns",
+    "source_agrees": "info source address", "fusion_published": "info", "rounds_resumed": "info", "master_resumed": "info", "sleep_seen": "info",
+    "sources_fresh": "info", "server_answers": "info server address",
 }
 
 # How long something lasts, in nanoseconds, as documents and doc comments say.
@@ -110,22 +116,34 @@ TIMES = {
 # The reply of a server of another host, and the longest sleep before a request to it: they are looked at by root alone.
 TIMES_OF_OTHERS = {"far reply": SECOND, "far look": SECOND}
 
-# The forms of a line. Addresses are the only texts, and a rate may be below 0.
+# The forms of a line. Addresses and the words of a number are the only texts, and a rate may be below 0.
 RATE = r"-?[0-9]+\.[0-9]{3}"
-ADDRESS = r"(?:[0-9.]+|\[[0-9a-f:.]+\]):[0-9]+"
+ADDRESS = r"(?:[0-9A-Za-z.-]+|\[[0-9a-f:.]+\]):[0-9]+"
+WORDS = r'"[^"\\\n]+"'
 MOMENT = r"[0-9]{4}-[0-9]{2}-[0-9]{2}T[0-9]{2}:[0-9]{2}:[0-9]{2}\.[0-9]{9}Z"
 FORMS = {
-    "text": re.compile(rf"time={MOMENT} level=[a-z]+ event=[a-z_]+( [a-z_]+=[0-9]+| rate_ppm={RATE}| address={ADDRESS})*\n"),
-    "json": re.compile(rf'\{{"time":"{MOMENT}","level":"[a-z]+","event":"[a-z_]+"(,"[a-z_]+":[0-9]+|,"rate_ppm":{RATE}|,"address":"{ADDRESS}")*\}}\n'),
+    "text": re.compile(rf"time={MOMENT} level=[a-z]+ event=[a-z_]+( [a-z_]+=[0-9]+| rate_ppm={RATE}| address={ADDRESS}| text={WORDS})*\n"),
+    "json": re.compile(rf'\{{"time":"{MOMENT}","level":"[a-z]+","event":"[a-z_]+"(,"[a-z_]+":[0-9]+|,"rate_ppm":{RATE}|,"address":"{ADDRESS}"|,"text":{WORDS})*\}}\n'),
 }
 
 # The names of all checks that are to be made.
 NAMES = [*(f"setting {name}" for name in SETTINGS), *(f"option {name}" for name in OPTIONS), *(f"act {name}" for name in ACTS),
-         *(f"status {name}" for name in ("build_info", "form", *FIRST, *OF_SOURCES, *LAST, *BUCKETS)), *(f"shared {name}" for name in SHARED),
+         *(f"status {name}" for name in ("build_info", "source_info", "form", *FIRST, *OF_SOURCES, *LAST, *OF_BREAKS, *BUCKETS)), *(f"shared {name}" for name in SHARED),
          *(f"master {name}" for name in OF_MASTERS),
          *(f"log {name}" for name in EVENTS), *(f"time {name}" for name in TIMES)]
 for unreached in UNREACHED:
     NAMES.remove(f"status refused_{unreached}")
+
+
+@functools.cache
+def sentences():
+    """What the program says of each number of a refusal, as docs/reference has it."""
+    return dict(re.findall(r"^\| ([0-9]+) \| ([^|]+) \|", read_text(in_top("docs/reference/refusals.md")), re.MULTILINE))
+
+
+def sentence_of(number):
+    """What the program says of a number, None without one."""
+    return number and sentences()[number]
 
 
 def eventually(call, seconds=6.0, pause_s=0.02):
@@ -162,7 +180,8 @@ class Checks(Trial):
             return [line for line in process.said(event) if all(line.get(name) == str(value) for name, value in wanted.items())]
         lines = eventually(look, seconds) or []
         level, *numbers = EVENTS[event].split()
-        fits = [line for line in lines if line["level"] == level and line.keys() - {"left_out"} == {"time", "level", "event", *numbers}]
+        fits = [line for line in lines if line["level"] == level and line.keys() - {"left_out"} == {"time", "level", "event", *numbers}
+                and line.get("text") == sentence_of(line.get("number"))]
         self.check(f"log {event}", fits, f"no line with level {level} and {wanted or numbers}, only {process.said(event)[:3]}")
         return fits[0] if fits else {}
 
@@ -203,7 +222,7 @@ def number_of(numbers, name):
 def status_of(node):
     """The numbers of its status by the names above, those of each source as lists, and buckets by their bounds in nanoseconds."""
     numbers = node.status()
-    found = {name: number_of(numbers, line) for name, line in (FIRST | LAST).items()}
+    found = {name: number_of(numbers, line) for name, line in (FIRST | LAST | OF_BREAKS).items()}
     for name, line in OF_SOURCES.items():
         found[name] = [number_of(numbers, line % source) for source in range(found["sources"] or 0)]
     for name, line in BUCKETS.items():
@@ -212,11 +231,16 @@ def status_of(node):
     return found
 
 
-def names_of(sources, version):
-    """The names of the numbers of a status with so many sources, in their order, but for buckets."""
+def infos_of(addresses):
+    """The names of the numbers by which a status tells the addresses of its sources, in their order."""
+    return [f'truetime_source_info{{source="{source}",address="{address}"}}' for source, address in enumerate(addresses)]
+
+
+def names_of(addresses, version):
+    """The names of the numbers of a status of sources with these addresses, in their order, but for buckets."""
     metrics = [list(names) for _, names in itertools.groupby(OF_SOURCES, lambda name: OF_SOURCES[name].partition("{")[0])]
-    of_sources = [OF_SOURCES[name] % source for names in metrics for source in range(sources) for name in names]
-    return [f'truetime_build_info{{version="{version}"}}', *FIRST.values(), *of_sources, *LAST.values()]
+    of_sources = [OF_SOURCES[name] % source for names in metrics for source in range(len(addresses)) for name in names]
+    return [f'truetime_build_info{{version="{version}"}}', *FIRST.values(), *of_sources, *LAST.values(), *infos_of(addresses)]
 
 
 def look_at_form(trial, node):

@@ -1,20 +1,28 @@
 """Scenarios of the suite `wiring`: each kind of line of the log, and the numbers of the status that rise when something fails."""
 import contextlib
 import errno
+import itertools
 import os
+import re
 import resource
 import select
 import shutil
+import signal
 import socket
 import time
+import types
 
 from harness.faults import Spoils, disrupt, full_pipe, hold_lock, honest, late, page, silent
-from harness.processes import SECOND, fields_of
-from harness.program import read, write
+from harness.processes import SECOND, fields_of, free_port, truetime
+from harness.program import read, read_text, write
 from harness.shared_file import of_another_boot, slots_in
 from suites.breaks_world import is_valid
 from suites.wiring import suite
 from suites.wiring_checks import HERE, eventually, lies, places_of, published, status_of
+from suites.wiring_of_masters import Spoiled
+
+# A kind of line of which none was to be written for so long begins anew: its first pause, and as long again, and a second.
+QUIET_AGAIN = 21 * SECOND
 
 
 @suite.case()
@@ -109,7 +117,10 @@ def status_that_fails(trial):
     # The draft of a status may just be there.
     eventually(lambda: os.makedirs(node.path("status.new/kept")) or True)
     trial.logs(node, "status_unwritten", errno=errno.EISDIR)
+    time.sleep(0.5)
+    trial.equal("log status_written", node.said("status_written"), [])
     shutil.rmtree(node.path("status.new"), ignore_errors=True)
+    trial.logs(node, "status_written")
     rounds = status_of(node)["rounds"]
     trial.check("status rounds", eventually(lambda: status_of(node)["rounds"] > rounds), "it stays as it was")
 
@@ -123,7 +134,10 @@ def evidence_that_fails(trial):
     trial.check("setting evidence", eventually(lambda: is_valid(trial.program, path)), "nothing valid is there")
     eventually(lambda: os.makedirs(f"{path}.new/kept") or True)
     trial.logs(node, "evidence_unwritten", errno=errno.EISDIR)
+    time.sleep(0.5)
+    trial.equal("log evidence_written", node.said("evidence_written"), [])
     shutil.rmtree(f"{path}.new", ignore_errors=True)
+    trial.logs(node, "evidence_written")
     before = read(path)
     trial.check("setting evidence", eventually(lambda: read(path) != before), "it stays as it was")
     # Of a break the later one is still written.
@@ -153,8 +167,10 @@ def sleep_that_is_not_seen(trial):
     trial.equal("log sleep_unseen", len(node.said("sleep_unseen")), 1)
     trial.numbers(node, sleep_unseen=1, slept=0, breaks=0)
     # It can be read again, and then it cannot. Of one kind a line comes each ten seconds.
+    trial.equal("log sleep_seen", node.said("sleep_seen"), [])
     os.remove(spoils.path("no-boot"))
     trial.numbers(node, sleep_unseen=0, slept=0, breaks=0)
+    trial.logs(node, "sleep_seen")
 
     def sleeps(number):
         """The host sleeps for four fifths of a second once more, and the log tells of that alone."""
@@ -176,24 +192,109 @@ def sleep_that_is_not_seen(trial):
 
 
 @suite.case()
+def sources_that_answer_again(trial):
+    """One is silent in two rounds, one sends what is refused in one, and the third one answers always: each line that says that one answers again comes
+    behind the round in which it does, once."""
+    masters = trial.scripts([honest, honest, silent, silent, honest], [honest, lambda fake, poll: fake.send(poll[:-1]), honest], honest)
+    node = trial.running_node(masters, poll="50ms", wait="100ms")
+    for source in (0, 1):
+        trial.logs(node, "source_answers", source=source)
+    trial.logs(node, "source_silent", source=0)
+    eventually(lambda: len(masters[0].polls) > 12)
+    told = sorted((int(line["source"]), line["time"] >= masters[int(line["source"])].times[again]) for again, source in ((4, 0), (2, 1))
+                  for line in node.said("source_answers") if line["source"] == str(source))
+    trial.equal("log source_answers", (told, len(node.said("source_answers"))), ([(0, True), (1, True)], 2))
+
+
+@suite.case()
+def clocks_that_fail(trial):
+    """The clock goes back for a while, and the log says so; and that rounds end without a fault again, with the first one behind it, once."""
+    node, spoils = trial.spoilable(trial.scripts(*[honest] * 3), poll="50ms", wait="50ms")
+    trial.equal("log rounds_resumed", node.said("rounds_resumed"), [])
+    with spoils.spoiled("clock"):
+        trial.logs(node, "clock_back")
+        time.sleep(0.5)
+        trial.equal("log rounds_resumed", node.said("rounds_resumed"), [])
+    over = trial.logs(node, "rounds_resumed")
+    trial.check("log rounds_resumed", over.get("time", 0) > node.said("clock_back")[0]["time"], "it comes before its trouble")
+    rounds = status_of(node)["rounds"]
+    eventually(lambda: status_of(node)["rounds"] > rounds + 4)
+    trial.equal("log rounds_resumed", (len(node.said("rounds_resumed")), node.said("fusion_published")), (1, []))
+
+
+@suite.case()
+def sources_that_agree_again(trial):
+    """Of five sources, two of which may be faulty, one lies for a while, and another one always: the log says that the one agrees again, once."""
+    masters = trial.scripts(honest, [honest, honest, *[lies(10 * SECOND)] * 3, honest], honest, lies(20 * SECOND), honest)
+    node = trial.running_node(masters, poll="50ms", wait="100ms")
+    over = trial.logs(node, "source_agrees", source=1, address=masters[1].address)
+    begun = [line for line in node.said("source_suspect") if line["source"] == "1"]
+    trial.check("log source_agrees", begun and begun[0]["time"] < over.get("time", 0) and over.get("time", 0) >= masters[1].times[5], f"{over}, {begun}")
+    eventually(lambda: len(masters[0].polls) > 14)
+    trial.equal("log source_agrees", [line["source"] for line in node.said("source_agrees")], ["1"])
+    trial.logs(node, "source_suspect", source=3)
+
+
+@suite.case()
+def readings_that_widen(trial):
+    """No master answers until readings are wider than `max_width`: then sessions are refused, and the log says so before the next round; and that it is
+    over, once they answer again."""
+    masters = trial.scripts(honest)
+    node = trial.running_node(masters, max_width="100ms", drift=100_000, poll="50ms", wait="50ms")
+    time.sleep(0.5)
+    trial.equal("log width_above", node.said("width_above"), [])
+    masters[0].acts = [silent]
+    line = trial.logs(node, "width_above", limit_ns=100_000_000)
+    trial.between("log width_above", 100_000_000, int(line.get("width_ns", 0)), 160_000_000)
+    with truetime.Session(node.address, 2) as session:
+        trial.equal("log width_above", session.ask("now"), "refused 1824")
+        time.sleep(0.5)
+        trial.equal("log width_in_bounds", node.said("width_in_bounds"), [])
+        masters[0].acts = [honest]
+        trial.logs(node, "width_in_bounds")
+        trial.check("log width_in_bounds", session.ask("now").startswith("now "), "readings are refused behind it")
+    time.sleep(0.5)
+    trial.equal("log width_in_bounds", (len(node.said("width_above")), len(node.said("width_in_bounds"))), (1, 1))
+
+
+@suite.case()
+def machine_that_stands_still(trial):
+    """It is stopped for less than ten rounds and a second, and then for longer, in a pause between rounds of half a second and in a round."""
+    masters = trial.scripts(honest)
+    node = trial.running_node(masters, poll="50ms", wait="50ms")
+    for stopped_s, lines in ((1.0, 0), (2.6, 1)):
+        time.sleep(0.3)
+        node.running.send_signal(signal.SIGSTOP)
+        began = time.monotonic_ns()
+        time.sleep(stopped_s)
+        node.running.send_signal(signal.SIGCONT)
+        for line in eventually(lambda: node.said("stood_still"), 2 if lines else 0.6) or []:
+            trial.between("log stood_still", stopped_s, int(line["lasted_ns"]) / SECOND, (time.monotonic_ns() - began) / SECOND + 0.2)
+        trial.equal("log stood_still", len(node.said("stood_still")), lines)
+    trial.logs(node, "stood_still")
+
+
+@suite.case()
 def starts_after_breaks(trial):
     """Lives end by a disruption, with the status 3, and starts pause."""
     path = os.path.join(trial.room, "vmclock0")
     write(path, page(1))
     node = trial.node(trial.scripts(honest), vmclock=path)
     node.words.remove("--until-eof")
-    counted = []
+    counted, broke, ended = [], 0, 0
     for breaks, pause_ns in ((0, 0), (1, SECOND // 10), (2, SECOND // 5)):
         node.run()
         node.wait_until_ready()
-        trial.numbers(node, broken_lives=breaks)
+        told = trial.numbers(node, broken_lives=breaks, last_break_info=1 if breaks else None)
+        trial.check("status last_break", broke <= told["last_break"] <= ended if breaks else told["last_break"] is None, f"after {breaks} breaks, the last from {broke} to {ended}, it is {told['last_break']}")
         trial.equal("log start_paused", len(node.said("start_paused")), breaks)
         if breaks:
             trial.logs(node, "start_paused", breaks=breaks, pause_ns=pause_ns)
             trial.between("log start_paused", pause_ns / SECOND, time.monotonic() - node.began, pause_ns / SECOND + 2)
         time.sleep(0.3)  # the counter is read for the first time behind the first round
-        disrupt(path, breaks + 2)
+        broke = disrupt(path, breaks + 2)
         trial.equal("setting on_break", eventually(node.running.poll), 3)
+        ended = time.time_ns()
         # The last status counts it, where it was written before the end, and the shared file has the number of the last publication.
         status = status_of(node)
         counted.append(status["breaks"])
@@ -248,7 +349,7 @@ def no_descriptors(trial):
 
 @suite.case()
 def left_out_lines(trial):
-    """Within ten seconds of a line those of its kind are counted, and the next one tells how many there were. Of what is over no line comes later."""
+    """Within ten seconds of a line those of its kind are counted, and the next one tells how many there were. Of what came once no line comes later."""
     masters = trial.scripts(honest, silent, honest)
     node, spoils = trial.spoilable(masters, poll="200ms", log="json")
     with spoils.spoiled(f"send-{masters[2].address.split(':')[1]}"):
@@ -260,7 +361,7 @@ def left_out_lines(trial):
     os.remove(node.path("shared"))
     trial.logs(node, "sharing_ended", number=1705)
     trial.logs(node, "sharing_resumed")
-    once, over = ("source_unsent", "stranger", "sharing_ended", "sharing_resumed"), time.monotonic()
+    once, over = ("stranger", "sharing_ended", "sharing_resumed"), time.monotonic()
 
     def look():
         lines = [line for line in node.said("source_silent") if line["source"] == "1"]
@@ -268,13 +369,116 @@ def left_out_lines(trial):
 
     lines = eventually(look, 18, 0.2) or [{}]
     first, last = (int(lines[at].get("time", 0)) for at in (0, -1))
-    trial.between("log source_silent", 10 * SECOND, last - first, 14 * SECOND)
+    # The second one may have waited, since the last poll before ten seconds were over.
+    trial.between("log source_silent", 9 * SECOND, last - first, 14 * SECOND)
     polls = sum(first <= moment <= last for moment in masters[1].times)
     trial.between("log source_silent", polls - 2, int(lines[-1].get("left_out", -9)), polls + 1)
     trial.has_form("setting log", node, "json")
     time.sleep(max(0.0, over + 10.7 - time.monotonic()))
     for event in once:
         trial.equal(f"log {event}", len(node.said(event)), 1)
+
+
+def all_silent(trial, **settings):
+    """A machine whose masters never answer, so that nothing breaks as its clock jumps; the masters, the machine, and what spoils its calls."""
+    masters, spoils = trial.scripts(*[silent] * 3), Spoils(trial.room)
+    node = trial.node(masters, poll="20ms", wait="20ms", **settings)
+    node.environment = spoils.environment
+    node.run()
+    return masters, node, spoils
+
+
+@suite.case()
+def lines_that_are_repeated(trial):
+    """What lasts is told after ten seconds, and then each time after twice as long; what was told twice as late as that, after ten seconds again."""
+    masters, node, spoils = all_silent(trial)
+
+    def said():
+        return [line for line in node.said("source_silent") if line["source"] == "1"]
+
+    trial.logs(node, "source_silent", source=1, address=masters[1].address)
+    told = 1
+    for jump_s, more in ((4, 0), (8, 1), (11, 0), (10, 1), (25, 0), (20, 1), (170, 1), (11, 1), (5, 0)):
+        spoils.turn(jump_ns=jump_s * SECOND)
+        told += more
+        eventually(lambda: len(said()) >= told, 3)
+        time.sleep(0 if more else 1.3)
+        trial.equal("log source_silent", (jump_s, len(said())), (jump_s, told))
+
+
+@suite.case()
+def lines_that_wait(trial):
+    """A line that was left out comes once the pause is over, if none of its kind came since, with its own time and without itself in its count."""
+    masters, node, spoils = all_silent(trial)
+    eventually(lambda: masters[0].machine)
+    with socket.socket(socket.AF_INET, socket.SOCK_DGRAM) as door:
+        for _ in range(3):
+            door.sendto(b"x" * 60, masters[0].machine)
+            time.sleep(0.3)
+    first = trial.logs(node, "stranger")
+    over = time.time_ns()
+    time.sleep(1.3)
+    trial.equal("log stranger", len(node.said("stranger")), 1)
+    spoils.turn(jump_ns=11 * SECOND)
+    last = (eventually(lambda: len(lines := node.said("stranger")) > 1 and lines, 3) or [{}])[-1]
+    trial.equal("log stranger", (last.get("left_out"), last.get("address")), ("1", first.get("address")))
+    trial.between("log stranger", first.get("time", 0) + SECOND // 2, last.get("time", 0), over)
+    spoils.turn(jump_ns=700 * SECOND)
+    time.sleep(1.3)
+    trial.equal("log stranger", len(node.said("stranger")), 2)
+
+
+# The priority of each level.
+PRIORITIES = {"error": "<3>", "warn": "<4>", "info": "<6>"}
+
+
+def streams_of(path):
+    """What JOURNAL_STREAM may be for an empty file that is made at a path, and whether it names that."""
+    write(path, b"")
+    device, inode = os.stat(path).st_dev, os.stat(path).st_ino
+    return {f"{device}:{inode}": True, f"{device}:{inode + 1}": False, f"{device}:0{inode}": False, f"{device + 1}:{inode}": False, "": False, None: False}
+
+
+def environment_of(stream):
+    """The environment of this process with this JOURNAL_STREAM, if any."""
+    return {name: value for name, value in os.environ.items() if name != "JOURNAL_STREAM"} | ({} if stream is None else {"JOURNAL_STREAM": stream})
+
+
+def begins(trial, process, is_journal):
+    """Each line of a log begins with its priority, or none does, for the levels that it has."""
+    found = re.findall(r'^(<[0-9]>)?(?:time=|\{"time")[^\n]*?level(?:=|":")([a-z]+)', read_text(process.log), re.MULTILINE)
+    wrong = {(mark, level) for mark, level in found if mark != (PRIORITIES[level] if is_journal else "")}
+    trial.equal("setting log", (process.name, len(found), wrong), (process.name, read_text(process.log).count("\n"), set()))
+    return {level for _, level in found}
+
+
+@suite.case()
+def priorities_of_a_journal(trial):
+    """Each line of a machine begins with its priority, in both forms, where JOURNAL_STREAM names the file of standard error, and else none does."""
+    for form, place in itertools.product(("text", "json"), range(6)):
+        guest = os.path.join(trial.room, f"vmclock-{form}-{place}")
+        write(guest, page(1))
+        node = trial.node(trial.scripts(honest, silent, honest), f"{form}-{place}", log=form, on_break="warn", vmclock=guest)
+        stream, is_journal = list(streams_of(node.log).items())[place]
+        node.environment = environment_of(stream)
+        node.run()
+        node.wait_until_ready()
+        disrupt(guest, 2)
+        eventually(lambda node=node: "guest_disrupted" in read_text(node.log))
+        trial.equal("setting log", begins(trial, node, is_journal), {"info", "warn", "error"})
+        node.kill()
+
+
+@suite.case()
+def priorities_of_masters(trial):
+    """Each line of a master begins with its priority where JOURNAL_STREAM names the file of standard error, and else none does."""
+    for place in range(6):
+        name = f"master-of-a-journal-{place}"
+        stream, is_journal = list(streams_of(os.path.join(trial.room, f"{name}.log")).items())[place]
+        words = ["master", "--source", "1", "--listen", f"127.0.0.1:{free_port(socket.SOCK_DGRAM)}", "--uncertainty", "5"]
+        process = trial.keep(Spoiled(trial, types.SimpleNamespace(environment=environment_of(stream)), words, name=name))
+        eventually(lambda process=process: "\n" in read_text(process.log))
+        trial.equal("option log", begins(trial, process, is_journal), {"info"})
 
 
 # How many lines wait at most behind the one that is being written, and how many come of each window of ten seconds in which 16 sources are silent.
@@ -298,7 +502,7 @@ def standard_error_that_takes_nothing(trial):
 
     goes_round()
     for _ in range(WINDOWS - 1):
-        spoils.turn(jump_ns=11 * SECOND)
+        spoils.turn(jump_ns=QUIET_AGAIN)
         goes_round()
     # Before them come the lines of the descriptors and of the start.
     lost = 2 + WINDOWS * LINES_OF_A_WINDOW - 1 - LINES_THAT_WAIT
@@ -323,7 +527,7 @@ def standard_error_that_takes_nothing(trial):
     later = [line for line in lines[:1 + LINES_THAT_WAIT] if line["time"] > drained]
     trial.equal("log source_silent", (len(lines) > LINES_THAT_WAIT, later), (True, []))
     low = len(masters[0].polls)
-    spoils.turn(jump_ns=11 * SECOND)
+    spoils.turn(jump_ns=QUIET_AGAIN)
     _, ours = take(LINES_THAT_WAIT, len(ours))
     told = sum(1 + int(line.get("left_out", 0)) for line in ours)
     trial.between("log source_silent", low - 2, told, len(masters[0].polls))
@@ -345,6 +549,8 @@ def calls_that_fail(trial):
     with spoils.spoiled("receive"):
         trial.logs(node, "round_failed", number=1501)
         trial.logs(node, "socket_renewed", number=1501, pause_ns=SECOND // 10)
+        trial.equal("log rounds_resumed", node.said("rounds_resumed"), [])
+    trial.logs(node, "rounds_resumed")
     with spoils.spoiled("clock"):
         trial.logs(node, "clock_back")
     first = node.resources()[1]
@@ -359,7 +565,7 @@ def calls_that_fail(trial):
         trial.logs(node, "socket_renewed", number=1501, pause_ns=SECOND // 10)
         time.sleep(1)
         trial.between("log socket_renewed", 3, len(masters[0].polls), 6)
-        spoils.turn(jump_ns=11 * SECOND)
+        spoils.turn(jump_ns=QUIET_AGAIN)
         lines = eventually(lambda: len(lines := node.said("socket_renewed")) > 1 and lines, 8) or [{}]
         wanted = min(SECOND // 10 << 1 + int(lines[-1].get("left_out", 0)), 5 * SECOND)
         trial.equal("log socket_renewed", int(lines[-1].get("pause_ns", 0)), wanted)

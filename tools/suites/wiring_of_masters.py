@@ -181,7 +181,9 @@ def master_without_socket(trial):
     trial.check("option listen", eventually(lambda: asked.poll(0.3)[0]), "no answer")
     with spoils.spoiled("receive"):
         trial.logs(process, "master_failed")
+        trial.equal("log master_resumed", process.said("master_resumed"), [])
     trial.check("option listen", eventually(lambda: asked.poll(0.3)[0], 10), "no answer once packets are received again")
+    trial.logs(process, "master_resumed")
 
 
 class OnDevice(Asked):
@@ -266,8 +268,27 @@ def polls_that_do_not_open(trial):
     trial.logs(asked.process, "keys_refused", number=2215, line=2)
     time.sleep(10.5)
     trial.equal("log keys_refused", len(asked.process.said("keys_refused")), 1)
+    trial.logs(asked.process, "polls_unopened", count=3)
     trial.check("option keys", not is_answered(asked, 7, OTHER, 0.1), "an answer")
-    trial.logs(asked.process, "polls_unopened", count=4)
+
+
+@suite.case()
+def keys_that_are_refused_again(trial):
+    """A second error in the file of keys within ten seconds is told once these are over."""
+    keys, spoils = os.path.join(trial.room, "keys"), Spoils(trial.room)
+    put_keys(keys, f"7 {OLD.hex()}")
+    address = f"127.0.0.1:{free_port(socket.SOCK_DGRAM)}"
+    process = trial.keep(Spoiled(trial, spoils, ["master", "--source", "1", "--listen", address, "--uncertainty", "5", "--keys", keys]))
+    trial.logs(process, "master_started")
+    put_keys(keys, f"7 {OLD.hex()}", "8 00")
+    trial.logs(process, "keys_refused", number=2215, line=2)
+    put_keys(keys, f"7 {OLD.hex()}")
+    trial.logs(process, "keys_read", keys=1)
+    put_keys(keys, f"7 {OLD.hex()}", f"8 {NEW.hex()}", "9 00")
+    time.sleep(2.5)
+    trial.equal("log keys_refused", len(process.said("keys_refused")), 1)
+    spoils.turn(jump_ns=11 * SECOND)
+    trial.equal("log keys_refused", trial.logs(process, "keys_refused", number=2215, line=3).get("left_out"), None)
 
 
 @suite.case()
@@ -284,13 +305,14 @@ def keys_of_masters(trial):
     put_keys(keys, f"7 {OLD.hex()} host-a", f"8 {NEW.hex()} host-a")
     trial.logs(asked.process, "keys_read", keys=2)
     trial.check("option keys", is_answered(asked, 8, NEW, 5) and is_answered(asked, 7, OLD, 5), "no answer under one of two keys")
+    trial.check("option status", 'truetime_master_keys_refused_total{source="3"} 0\n' in read_text(status), "a file was refused before any")
     put_keys(keys, f"8 {NEW.hex()} host-a", "9 00")
     trial.logs(asked.process, "keys_refused", number=2215, line=2)
     trial.check("option keys", is_answered(asked, 7, OLD, 5), "no answer under a key that stays")
     put_keys(keys, f"8 {NEW.hex()} host-a")
     trial.check("option keys", eventually(lambda: not is_answered(asked, 7, OLD)), "an answer under a key that was dropped")
     trial.check("option keys", is_answered(asked, 8, NEW, 5), "no answer under the key that is left")
-    wanted = [r'truetime_master_keys\{source="3"\} 1', r'truetime_master_answers_total\{source="3",key="8"\} 2',
+    wanted = [r'truetime_master_keys\{source="3"\} 1', r'truetime_master_keys_refused_total\{source="3"\} 1', r'truetime_master_answers_total\{source="3",key="8"\} 2',
               r'truetime_master_answers_total\{source="3",key="none"\} 0', r'truetime_master_dropped_total\{source="3",number="2201"\} 0',
               r'truetime_master_dropped_total\{source="3",number="2202"\} [1-9][0-9]*', r'truetime_master_dropped_total\{source="3",number="2203"\} 1']
     for line in wanted:

@@ -79,9 +79,9 @@ class Over(Timed):
         return self.ends(move_ns, 0.15) is None
 
     def refuses(self, number):
-        """Whether it comes to tell that a reply is refused by this number; a line of a kind comes once in ten seconds."""
+        """Whether it comes to tell that a reply is refused by this number; a kind of line that was quiet for twenty seconds comes again."""
         def look():
-            self.ends(11 * SECOND)
+            self.ends(21 * SECOND)
             return eventually(lambda: str(number) in [line["number"] for line in self.process.said("server_refused")], 0.2)
         return eventually(look, SOON_S)
 
@@ -281,7 +281,7 @@ def servers_that_differ(trial):
         trial.check("option faulty", is_right, f"{over.ends()} with {faulty} that may be wrong; {wanted} and {moved()} is wanted")
     for servers, number in (([first, silent, second], 2402), ([first, apart], 2407)):
         over = Over(trial, clock, servers)
-        is_told = eventually(lambda over=over, number=number: not over.ends(11 * SECOND) and any(
+        is_told = eventually(lambda over=over, number=number: not over.ends(21 * SECOND) and any(
             line["number"] == str(number) for line in over.process.said("master_silent")), SOON_S, 0.1)
         trial.check("option faulty", is_told, f"no silence {number}")
 

@@ -431,12 +431,17 @@ def ages_of_masters(trial):
         time.sleep(0.05)
     trial.between("option max-age", 1.6, last - began, 3.0)
     tells_silence(trial, over, 2403)
-    trial.logs(over.process, "server_silent", SOON_S, server=0)
+    # A busy host may have kept a reply back before: that was over, too.
+    told = len(over.process.said("server_answers"))
+    trial.logs(over.process, "server_silent", SOON_S, server=0, address=server.address)
     seen = over.comes_to(trial, server_silence=[2403], server_width_seconds=[None])
+    trial.equal("log server_answers", len(over.process.said("server_answers")), told)
     trial.between("master server_age_seconds", 2 * SECOND, seen["server_age_seconds"][0], 20 * SECOND)
     server.says = Says()
     trial.check("option max-age", over.holds(), "no answer after the server was heard again")
     trial.logs(over.process, "master_answers", SOON_S)
+    trial.logs(over.process, "server_answers", SOON_S, server=0, address=server.address)
+    trial.check("log server_answers", eventually(lambda: len(over.process.said("server_answers")) == told + 1, SOON_S), "it is not told that it answers again")
     seen = over.polled(trial).comes_to(trial, server_silence=[0])
     trial.between("master server_age_seconds", 0, seen["server_age_seconds"][0], SECOND)
     trial.check("master unanswered_2403", (seen["unanswered_2403"] or 0) > 0, "no poll is counted")
@@ -528,6 +533,11 @@ def widths_of_masters(trial):
     spans = [over.span() for _ in range(4)]
     widest = max(span[1] - span[0] for span in spans if span)
     trial.check("master width_max", eventually(lambda: over.numbers()["width_max"] == widest, 3), f"not {widest}: {over.numbers()['width_max']}")
+    trial.equal("log width_in_bounds", (over.process.said("width_in_bounds"), narrow.process.said("width_in_bounds")), ([], []))
+    server.says = Says()
+    is_over = eventually(lambda: over.span(0.3) and over.process.said("width_in_bounds"), SOON_S)
+    trial.check("log width_in_bounds", is_over, "it is not told of a master")
+    trial.logs(over.process, "width_in_bounds")
     trial.equal("option status", faults_in(read_text(over.path)), [])
 
 

@@ -65,7 +65,7 @@ def reasons_of(answer):
     return [line.partition(":")[0] for line in answer.text.splitlines()]
 
 
-def comes_to(trial, port, wanted, seconds=6.0):
+def comes_to(trial, port, wanted, seconds=6.0, name="setting http"):
     """Its health comes to be that."""
     seen = []
 
@@ -73,7 +73,7 @@ def comes_to(trial, port, wanted, seconds=6.0):
         seen.append(reasons_of(get(port, "/health")))
         return seen[-1] == wanted
 
-    trial.check("setting http", eventually(look, seconds), f"the health is {seen[-1:]}, and {wanted} is wanted")
+    trial.check(name, eventually(look, seconds), f"the health is {seen[-1:]}, and {wanted} is wanted")
 
 
 @suite.case()

@@ -7,11 +7,13 @@ import subprocess
 import time
 
 from harness.faults import NOBODY, Network, Spoils, answer, honest, silent
+from harness.metrics import faults_in
 from harness.processes import SECOND
-from harness.program import run, write
+from harness.program import read_text, run, write
 from harness.wire import REQUEST, sealed
 from suites.wiring import suite
 from suites.wiring_checks import SealedMaster, eventually, put_keys, status_of
+from suites.wiring_of_pages import get, with_pages
 
 FIRST, SECOND_KEY, THIRD, OTHER = (bytes(range(start, start + 32)) for start in (0, 50, 100, 150))
 KEYS = [f"7 {FIRST.hex()} a", f"8 {SECOND_KEY.hex()}", "# no key", f"4294967295 {THIRD.hex()}"]
@@ -184,6 +186,26 @@ def names_of_masters(trial):
         trial.check("log ended", False, fault)
     trial.equal("log source_resolved", [line["source"] for line in node.said("source_resolved")], ["0"])
     trial.has_form("setting log", node, "json")
+
+
+@suite.case()
+def addresses_in_the_status(trial):
+    """The status file and the page of it end with the address of each source as the settings have it, whatever a name stands for."""
+    host = socket.getaddrinfo("localhost", 0, type=socket.SOCK_DGRAM)[0][4][0]
+    local, six = scripted(trial, {7: FIRST}, honest, host=host), scripted(trial, {8: SECOND_KEY}, honest, host="::1")
+    [plain] = trial.scripts(honest)
+    masters = [table(local, 7, "LocalHost"), table(six, 8), {"address": plain.address}]
+    node, port = with_pages(trial, masters, keys=keys_at(trial), machine=5)
+    node.run()
+    trial.numbers(node, known=3)
+    wanted = [f'truetime_source_info{{machine="5",source="{source}",address="{master["address"]}"}} 1' for source, master in enumerate(masters)]
+    for text in read_text(node.path("status")), get(port, "/metrics").text:
+        lines = text.splitlines()
+        trial.equal("status source_info", lines[-3:], wanted)
+        trial.equal("status source_info", [line for line in lines[:-5] if "truetime_source_info" in line], [])
+        trial.equal("status source_info", lines[-5:-3], ["# HELP truetime_source_info The address of a source, as the settings have it.",
+                                                         "# TYPE truetime_source_info gauge"])
+        trial.equal("status form", faults_in(text), [])
 
 
 @suite.case()

@@ -89,11 +89,14 @@ def rounds(trial):
     trial.equal("shared epoch", seen["shared"].epoch, EPOCH + 1)
     said = subprocess.run([trial.program, "--version"], capture_output=True, text=True, check=True).stdout
     numbers = [name for name in node.status() if not name.startswith(tuple(BUCKETS.values()))]
-    trial.equal("status build_info", numbers, names_of(7, said.strip().partition(" ")[2]))
+    trial.equal("status build_info", numbers, names_of([master.address for master in masters], said.strip().partition(" ")[2]))
     look_at_form(trial, node)
     trial.logs(node, "answers_refused", count=len(REFUSED[0]))
     for number in (701, 504):
         trial.logs(node, "fusion_refused", number=number)
+    over = trial.logs(node, "fusion_published")
+    trial.check("log fusion_published", over.get("time", 0) > max(line["time"] for line in node.said("fusion_refused")), "it comes before its trouble")
+    trial.equal("log fusion_published", len(node.said("fusion_published")), 1)
     for event, sources in (("source_silent", {0, 1, 2, 3, SILENT}), ("source_suspect", LIARS)):
         trial.logs(node, event)
         trial.equal(f"log {event}", {int(line["source"]) for line in node.said(event)}, sources)
@@ -196,9 +199,16 @@ def stale_before_a_publication(trial):
 
 @suite.case()
 def sources_that_fall_silent_at_once(trial):
-    """Of five sources, two of which may be faulty, three answer no more: two have answered, which are fewer than are needed."""
-    node = trial.running_node(trial.scripts(honest, honest, *[[honest] * 4 + [silent]] * 3), poll="100ms", wait="50ms")
+    """Of five sources, two of which may be faulty, three answer no more: two have answered, which are fewer than are needed. Then one answers again."""
+    masters = trial.scripts(honest, honest, *[[honest] * 4 + [silent] for _ in range(3)])
+    node = trial.running_node(masters, poll="100ms", wait="50ms")
     trial.logs(node, "sources_stale", answered=2, needed=3)
+    trial.equal("log sources_fresh", node.said("sources_fresh"), [])
+    masters[3].acts = [honest]
+    trial.logs(node, "sources_fresh")
+    rounds = status_of(node)["rounds"]
+    eventually(lambda: status_of(node)["rounds"] > rounds + 4)
+    trial.equal("log sources_fresh", len(node.said("sources_fresh")), 1)
 
 
 # How late sources answer, and by how much more a round trip may be seen, in seconds.

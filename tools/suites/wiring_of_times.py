@@ -257,6 +257,23 @@ def minute_between_failed_lookups(trial):
 
 
 @suite.case()
+def name_that_is_found_again(trial):
+    """A name that has no address for a while, and then the one that it had: the log tells of either."""
+    node, spoils, looks = named_by_one(trial)
+    spoils.tell("addresses", "127.0.0.1")
+    node.run()
+    trial.logs(node, "source_resolved", source=0)
+    spoils.tell("addresses", 64 * "x")
+    spoils.turn(jump_ns=61 * SECOND)
+    trial.logs(node, "source_unresolved", source=0)
+    trial.equal("log source_resolved", len(node.said("source_resolved")), 1)
+    spoils.tell("addresses", "127.0.0.1")
+    spoils.turn(jump_ns=61 * SECOND)
+    again = eventually(lambda: len(lines := node.said("source_resolved")) == 2 and lines) or [{}]
+    trial.equal("log source_resolved", (looks(), again[0].get("address")), (3, again[-1].get("address")))
+
+
+@suite.case()
 def minute_between_lookups(trial):
     """The name of a silent master is looked up again a minute after its last lookup ended, however long that took. An address that it had is no news."""
     node, spoils, looks = named_by_one(trial)

@@ -168,10 +168,11 @@ def top_above_the_limit(trial):
 def top_after_a_break(trial):
     """For ten minutes it is told that the last life broke, when and why."""
     node = folder_of(trial)
-    for ago, info, wanted in ((60, 1, r"! the last life broke +6\d\.\d{3}  s ago: assumption_broken"), (60, 0, r"! the last life broke +6\d\.\d{3}  s ago"), (580, 1, ".*"),
-                              (610, 1, None), (None, 0, None)):
+    broke, unmet = r"! the last life broke +6\d\.\d{3}  s ago", "assumption_broken"
+    for ago, event, info, wanted in ((60, unmet, 1, f"{broke}: {unmet}"), (60, "host_slept", 1, f"{broke}: host_slept"), (60, "guest_disrupted", 1, f"{broke}: guest_disrupted"),
+                                     (60, unmet, 0, broke), (60, "another", 1, broke), (580, unmet, 1, ".*"), (610, unmet, 1, None), (None, unmet, 0, None)):
         at = 0 if ago is None else time.time() - ago
-        more = f'truetime_last_break_timestamp_seconds{{machine="7"}} {at:.9f}\ntruetime_last_break_info{{machine="7",event="assumption_broken"}} {info}\n'
+        more = f'truetime_last_break_timestamp_seconds{{machine="7"}} {at:.9f}\ntruetime_last_break_info{{machine="7",event="{event}"}} {info}\n'
         write(node.path("status"), (STATUS + more).encode())
         said = run([trial.program, "top", node.path("node.toml"), "--once"], env=PLAIN, cwd=node.folder).said
         lines = [line for line in said.splitlines() if "broke" in line]
