@@ -1,13 +1,13 @@
 """The crates, by subject and in the order of crates.txt: what each is."""
 import re
 
-from pages.source import Missing, crates, read, sources, words
+from pages.source import Missing, crates, read, sources
 
 NAME = "crates.md"
 HEAD = """\
 # The crates
 
-This page, made by `tools/reference`, lists the crates by subject, lowest first as in `crates.txt`, each with the first sentence of its \
+This page, made by `tools/reference`, lists the crates of `crates.txt` by subject, lowest first, each with the first sentence of its \
 own page. [ARCHITECTURE.md](../ARCHITECTURE.md) has the paths through them.
 """
 
@@ -25,12 +25,18 @@ def first_sentence(crate):
     return found[0]
 
 
+def subjects():
+    """The crates of each subject: in crates.txt a subject is a line of comment behind an empty one."""
+    found = {}
+    for part in read("crates.txt").split("\n\n# ")[1:]:
+        subject, _, lines = part.partition("\n")
+        found[subject] = re.findall(r"^(\w+)[^:\n]*:", lines, re.MULTILINE)
+    return found
+
+
 def page():
     """The text of the page."""
-    there = set(re.findall(r"^(\w+)[^:\n]*:", read("crates.txt"), re.MULTILINE))
-    subjects = {subject: set(names.split()) for subject, names in words("crates").items()}
-    listed = [crate for names in subjects.values() for crate in names]
-    if strange := sorted(there ^ set(listed)) or [crate for crate in listed if listed.count(crate) > 1]:
-        raise Missing(f"{strange[0]} is no crate with one subject")
-    return HEAD + "".join(f"\n## {subject}\n\n" + "".join(f"- `{crate}`: {first_sentence(crate)}\n" for crate in crates() if crate in names)
-                          for subject, names in subjects.items())
+    found = subjects()
+    if strange := set(crates()) - {crate for names in found.values() for crate in names}:
+        raise Missing(f"{min(strange)} has no subject")
+    return HEAD + "".join(f"\n## {subject}\n\n" + "".join(f"- `{crate}`: {first_sentence(crate)}\n" for crate in names) for subject, names in found.items())
