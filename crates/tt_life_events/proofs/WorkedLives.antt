@@ -31,7 +31,7 @@ use Rattle.tt_connections.specs.Turns.{AllowsOn}
 use Rattle.tt_connections.specs.declared.faults.StationFault.TheVariants.{FloorAboveCap}
 use Rattle.tt_connections.proofs.Leasing.{stamps_whole}
 use Rattle.tt_connections.proofs.Turning.{post-same, talks-on}
-use Rattle.tt_workers.specs.Happening.{AreAllByTurns, LeadFrom, WorkerEvent, calls_at}
+use Rattle.tt_workers.specs.Happening.{AreAllByTurns, AreOfSessions, LeadFrom, WorkerEvent, calls_at}
 use Rattle.tt_world.specs.Life.{life_at}
 use Rattle.tt_world.specs.declared.workers.Arrival.{Arrival}
 use Rattle.tt_consistency.specs.Assumed.{moments_in}
@@ -281,8 +281,12 @@ module _ (w : ℕ) (old new : SeatState) (begins passes : ℕ) where
     unfolding talks
     leads = (released.post, (station.post, refl, (refl, refl)), (refl, refl))
 
+    pub of-session : AreOfSessions events
+    unfolding talks
+    of-session = ((tt, refl), (refl, refl))
+
     abbrev pub by_turns : AreAllByTurns worker.post worker.sessions worker.last
-    by_turns = record { events = events; lead = leads; sessions_are = refl; none_goes_on = none-goes_on }
+    by_turns = record { events = events; lead = leads; of_sessions = of-session; sessions_are = refl; none_goes_on = none-goes_on }
 
     pub timed : AreTimed MachineGives failed ClientSays 1 100 (moments_in start (timeline_of 0)) 990 events (times ∷ []) max_time
     unfolding talked allows_begin allows_pass

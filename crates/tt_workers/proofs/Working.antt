@@ -1,5 +1,5 @@
 -- What a worker does to its sessions: each change of its post is a turn of one of them.
-use Rattle.std.proofs.Common.{◌≡◌, ◌≢◌, ℕ, zero, suc, ◌≤◌, ◌+◌, Bool, true, false, nat_eq, if◌then◌else◌, List, [], ◌∷◌, ◌++◌, length, get_or, Option, Some, None, IsSome, Result, Ok, Err, is_ok, IfOk, OnOk, OnErr, refl, sym, ap, ◌∙◌, subst, inl, inr, arith}
+use Rattle.std.proofs.Common.{◌≡◌, ◌≢◌, ℕ, zero, suc, ◌≤◌, Bool, nat_eq, if◌then◌else◌, List, [], ◌∷◌, ◌++◌, length, get_or, Option, Some, None, IsSome, Result, Ok, Err, IfOk, OnOk, OnErr, refl, sym, ap, ◌∙◌, subst, inl, inr, arith}
 use borrow.Author.Tests.{eq-eqb, ne_eqb}
 use Rattle.std.proofs.lemmas.Bool.{cases_eq}
 use Rattle.std.proofs.lemmas.List.{get_or_past}
@@ -8,17 +8,19 @@ use Rattle.std.specs.Io.KnownBytes.{Appends, Consumes}
 use Rattle.std.proofs.KnownBytes.{Appends-trans, Consumes-trans}
 use Rattle.tt_publish.specs.Known.{WatchState}
 use Rattle.tt_stamp.specs.Stamping.{SeatState}
+use Rattle.tt_session.specs.Conversation.{Conversation}
 use Rattle.tt_session.specs.declared.calls.Call.{Call}
 use Rattle.tt_session.proofs.Splitting.{Splits-nil}
 use Rattle.tt_clock.specs.Clock.{ClockState, MachineGives}
 use Rattle.tt_connections.specs.Client.{ClientSays}
-use Rattle.tt_connections.specs.Station.{PostState, new_station}
+use Rattle.tt_connections.specs.Station.{PostState, Allows, new_station}
 use Rattle.tt_connections.specs.Sessions.{AreServedBetween, IsServedBetween}
-use Rattle.tt_connections.specs.Turns.{PostGoesOn}
-use Rattle.tt_connections.specs.Visits.{VisitState, StandsAt, StandsOn, new_visit, station_at}
+use Rattle.tt_connections.specs.Turns.{PostGoesOn, AllowsOn}
+use Rattle.tt_connections.specs.Visits.{VisitState, StandsAt, new_visit, station_at}
 use Rattle.tt_connections.proofs.Turning.{post-same, post-both}
-use Rattle.tt_workers.specs.Happening.{SessionTurn, calls_at, sessions_of}
-use Rattle.tt_workers.specs.Worker.{MachineSession, MachineEvent, SessionState, IsNew, Serves, ServesLast, Served, ServedLast, GoesOn, IsOpenWith, HasWorked, WorkerServed, post_or, unheard, clock_failures, max_waits}
+use Rattle.tt_workers.specs.Happening.{SessionTurn, StandsFrom, calls_at, left_at, made_at, made_in, made_on, sessions_of}
+use Rattle.tt_workers.specs.Worker.{MachineSession, MachineEvent, MachineCall, MachineStation, SessionState, ComesTo, IsNew, Serves, ServesLast, Served, ServedLast, GoesOn, IsOpenWith, HasWorked, WorkerServed, post_or, unheard, clock_failures, max_waits}
+use Rattle.tt_workers.proofs.Making.{from-later, made-both, made-later, made-moved}
 use Rattle.slab.specs.Slab.{Slab, get, with_value, Updates}
 use Rattle.slab.proofs.SlabLemmas.{Updates-with_value}
 
@@ -47,22 +49,69 @@ pub worked-at : (first post : PostState ClockState) (found : Option (PostState C
 worked-at first post found open_at is w = subst (λ (p : Option (PostState ClockState)). HasWorked first (post_or first p) open_at) (sym is) w
 
 -- ---- sessions that are open
--- a session that stands, as one that ends
-abbrev session-at : (begun post : PostState ClockState) (bytes text : List ℕ) (visit : VisitState) → StandsAt MachineGives clock_failures ClientSays max_waits begun tt bytes text visit post → MachineSession
-session-at begun post bytes text visit s = record {
-  client = tt;
-  before = begun;
-  after = s.after;
-  bytes = bytes;
-  text = text;
-  served = visit.talk.served;
-  rest = s.stood.rest;
-  last = visit.talk.last;
-  session = s.stood.session;
-}
+-- calls of the machine, before each of which the post may have gone on, from the beginning of a session at a post
+abbrev Talks : PostState ClockState → List Call → MachineStation → Type 0
+Talks begun calls end = Conversation (AllowsOn MachineGives clock_failures ClientSays) (new_station begun tt) calls end
+
+abbrev Stands : PostState ClockState → List ℕ → List ℕ → VisitState → PostState ClockState → Type 0
+Stands begun bytes text visit post = StandsAt MachineGives clock_failures ClientSays max_waits begun tt bytes text visit post
+
+-- a session that stands, as one that ends: with its calls as they were made
+module _ (begun post : PostState ClockState) (bytes text : List ℕ) (visit : VisitState) (s : Stands begun bytes text visit post) (calls : List Call) (calls_are : s.stood.session.calls ≡ calls) (made : List MachineCall) (c : ComesTo begun tt calls made visit post) where
+  abbrev session-at : MachineSession
+  session-at = record {
+    client = tt;
+    before = begun;
+    after = station_at c.last tt visit;
+    bytes = bytes;
+    text = text;
+    served = visit.talk.served;
+    rest = s.stood.rest;
+    last = visit.talk.last;
+    session =
+        record {
+          lines = s.stood.session.lines;
+          calls = s.stood.session.calls;
+          replies = s.stood.session.replies;
+          splits = s.stood.session.splits;
+          talked = subst (λ (l : List Call). Talks begun l (station_at c.last tt visit)) (sym calls_are) c.talked;
+          answered = s.stood.session.answered;
+          says = s.stood.session.says;
+          lines_are = s.stood.session.lines_are;
+          refused_are = s.stood.session.refused_are;
+        };
+  }
+
+  made-at : (all : List MachineCall) → all ≡ made → made_on MachineGives clock_failures ClientSays (new_station begun tt) session-at.session.calls session-at.after session-at.session.talked ≡ all
+  made-at all is = made-moved MachineGives clock_failures ClientSays (new_station begun tt) (station_at c.last tt visit) calls s.stood.session.calls (sym calls_are) c.talked ∙ c.made_are ∙ sym is
+
+-- the calls of a session before its first turn, once its post has gone on, and after a turn
+comes-new : (post : PostState ClockState) → ComesTo post tt [] [] new_visit post
+comes-new post = record { last = post; goes = post-same post post refl; talked = refl; made_are = refl }
+
+comes-later : (begun post later : PostState ClockState) (calls : List Call) (made : List MachineCall) (visit : VisitState) → PostGoesOn post later → ComesTo begun tt calls made visit post → ComesTo begun tt calls made visit later
+comes-later begun post later calls made visit goes c = record { last = c.last; goes = post-both c.last post later c.goes goes; talked = c.talked; made_are = c.made_are }
+
+comes-turned : (begun post later : PostState ClockState) (calls turn : List Call) (made : List MachineCall) (old new : VisitState)
+    → (talked : Conversation (Allows MachineGives clock_failures ClientSays) (station_at post tt old) turn (station_at later tt new)) → ComesTo begun tt calls made old post
+    → ComesTo begun tt (calls ++ turn) (made ++ made_in MachineGives clock_failures ClientSays (station_at post tt old) turn (station_at later tt new) talked) new later
+comes-turned begun post later calls turn made old new talked c =
+    let from : MachineStation = station_at c.last tt old in
+    let more = made_in MachineGives clock_failures ClientSays (station_at post tt old) turn (station_at later tt new) talked in
+    let l = made-later MachineGives clock_failures ClientSays from (station_at post tt old) turn (station_at later tt new) refl c.goes talked in
+    let (both, are) = made-both MachineGives clock_failures ClientSays (new_station begun tt) from (station_at l.last tt new) calls turn c.talked l.on in
+    record {
+      last = l.last;
+      goes = l.goes;
+      talked = both;
+      made_are =
+          are
+          ∙ ap (λ (m : List MachineCall). m ++ made_on MachineGives clock_failures ClientSays from turn (station_at l.last tt new) l.on) c.made_are
+          ∙ ap (λ (m : List MachineCall). made ++ m) l.made_are;
+    }
 
 -- what is kept of a session before its first turn
-abbrev stands-new : (post : PostState ClockState) → StandsAt MachineGives clock_failures ClientSays max_waits post tt [] [] new_visit post
+abbrev stands-new : (post : PostState ClockState) → Stands post [] [] new_visit post
 stands-new post = record {
   after = new_station post tt;
   stood =
@@ -89,16 +138,28 @@ stands-new post = record {
 }
 
 -- a session before its first turn
-begins : (first post : PostState ClockState) (calls : List Call) (session : SessionState) → PostGoesOn first post → calls ≡ [] → IsNew session → GoesOn first post calls session
-begins first post calls session goes none new =
+begins : (first post : PostState ClockState) (session : SessionState) → PostGoesOn first post → IsNew session → GoesOn first post [] [] None session
+begins first post session goes new =
     let s =
-    subst (λ (v : VisitState). (s : StandsAt MachineGives clock_failures ClientSays max_waits post tt [] [] v post) × (s.stood.session.calls ≡ [])) (sym new.visit) (stands-new post, refl)
+    subst (λ (v : VisitState). (s : Stands post [] [] v post) × (s.stood.session.calls ≡ [])) (sym new.visit) (stands-new post, refl)
     in
-    record { client = tt; begun = post; begins = goes; bytes = []; text = []; stands = s.0; calls_are = s.1 ∙ sym none; gave = new.gave; wrote = new.wrote }
+    record {
+      client = tt;
+      begun = post;
+      begins = goes;
+      bytes = [];
+      text = [];
+      stands = s.0;
+      calls_are = s.1;
+      gave = new.gave;
+      wrote = new.wrote;
+      comes = subst (λ (v : VisitState). ComesTo post tt [] [] v post) (sym new.visit) (comes-new post);
+      kept = ap (λ (v : VisitState). station_at {V = Unit {0}} post tt v) new.visit;
+    }
 
 -- where the post goes on, a session goes on at it
-goes-later : (first post later : PostState ClockState) (calls : List Call) (session : SessionState) → PostGoesOn post later → GoesOn first post calls session → GoesOn first later calls session
-goes-later first post later calls session goes g = record {
+goes-later : (first post later : PostState ClockState) (calls : List Call) (made : List MachineCall) (left : Option MachineStation) (session : SessionState) → PostGoesOn post later → GoesOn first post calls made left session → GoesOn first later calls made left session
+goes-later first post later calls made left session goes g = record {
   client = g.client;
   begun = g.begun;
   begins = g.begins;
@@ -116,62 +177,100 @@ goes-later first post later calls session goes g = record {
   calls_are = g.calls_are;
   gave = g.gave;
   wrote = g.wrote;
+  comes = comes-later g.begun post later calls made session.visit goes g.comes;
+  kept = from-later left (station_at post tt session.visit) later g.kept;
 }
 
-open-later : (first post later : PostState ClockState) (calls : List Call) (slot : Option SessionState) → PostGoesOn post later → IsOpenWith first post calls slot → IsOpenWith first later calls slot
-open-later first post later calls None goes open_with = open_with
-open-later first post later calls (Some session) goes open_with = goes-later first post later calls session goes open_with
+open-later : (first post later : PostState ClockState) (calls : List Call) (made : List MachineCall) (left : Option MachineStation) (slot : Option SessionState) → PostGoesOn post later → IsOpenWith first post calls made left slot → IsOpenWith first later calls made left slot
+open-later first post later calls made left None goes open_with = open_with
+open-later first post later calls made left (Some session) goes open_with = goes-later first post later calls made left session goes open_with
 
 -- where the post goes on, each session was served before that
 served-later : (first before after : PostState ClockState) → PostGoesOn before after → (sessions : List MachineSession) → AreServedBetween first before sessions → AreServedBetween first after sessions
 served-later first before after goes sessions served =
     All-weaker (IsServedBetween first before) (IsServedBetween first after) (λ (session : MachineSession) between. (between.0, post-both session.after.post before after between.1 goes)) sessions served
 
+-- what is open at a place behind these events
+abbrev OpenAt : PostState ClockState → PostState ClockState → List MachineEvent → ℕ → Option SessionState → Type 0
+OpenAt first post events place slot = IsOpenWith first post (calls_at place events) (made_at place events) (left_at place events) slot
+
 -- what is open at each place, where it is at one of them and at the others
-open-behind : (first post : PostState ClockState) (place : ℕ) (calls : ℕ → List Call) (slots : ℕ → Option SessionState) (slot : Option SessionState)
-    → IsOpenWith first post (calls place) slot → ((other : ℕ) → other ≢ place → IsOpenWith first post (calls other) (slots other))
-    → (other : ℕ) → IsOpenWith first post (calls other) (put place slot slots other)
-open-behind first post place calls slots slot here others other =
+open-behind : (first post : PostState ClockState) (place : ℕ) (events : List MachineEvent) (slots : ℕ → Option SessionState) (slot : Option SessionState)
+    → OpenAt first post events place slot → ((other : ℕ) → other ≢ place → OpenAt first post events other (slots other)) → (other : ℕ) → OpenAt first post events other (put place slot slots other)
+open-behind first post place events slots slot here others other =
     elim (cases_eq other place) [
-      | inl same ↦ subst (λ (s : Option SessionState). IsOpenWith first post (calls other) s) (sym (if-at other place slot (slots other) same)) (subst (λ (p : ℕ). IsOpenWith first post (calls p) slot) (sym same) here)
-      | inr differs ↦ subst (λ (s : Option SessionState). IsOpenWith first post (calls other) s) (sym (if-other other place slot (slots other) differs)) (others other differs)
+      | inl same ↦ subst (λ (s : Option SessionState). OpenAt first post events other s) (sym (if-at other place slot (slots other) same)) (subst (λ (p : ℕ). OpenAt first post events p slot) (sym same) here)
+      | inr differs ↦ subst (λ (s : Option SessionState). OpenAt first post events other s) (sym (if-other other place slot (slots other) differs)) (others other differs)
     ]
+
+-- what is open at a place, behind an event at it, and at another one
+module _ (first post : PostState ClockState) (events : List MachineEvent) (place : ℕ) (slot : Option SessionState) where
+  open-turned : (turn : SessionTurn MachineGives clock_failures ClientSays) → turn.place ≡ place
+      → IsOpenWith first post (calls_at place events ++ turn.calls) (made_at place events ++ made_in MachineGives clock_failures ClientSays turn.before turn.calls turn.after turn.talked) (Some turn.after) slot
+      → OpenAt first post (inl turn ∷ events) place slot
+  open-turned turn here open_with =
+      let more = made_in MachineGives clock_failures ClientSays turn.before turn.calls turn.after turn.talked in
+      subst (λ (t : Bool). IsOpenWith first post (if t then calls_at place events ++ turn.calls else calls_at place events) (if t then made_at place events ++ more else made_at place events) (if t then Some turn.after else left_at place events) slot)
+      (sym (eq-eqb place turn.place (sym here))) open_with
+
+  open-beside : (turn : SessionTurn MachineGives clock_failures ClientSays) → place ≢ turn.place → OpenAt first post events place slot → OpenAt first post (inl turn ∷ events) place slot
+  open-beside turn differs open_with =
+      let more = made_in MachineGives clock_failures ClientSays turn.before turn.calls turn.after turn.talked in
+      subst (λ (t : Bool). IsOpenWith first post (if t then calls_at place events ++ turn.calls else calls_at place events) (if t then made_at place events ++ more else made_at place events) (if t then Some turn.after else left_at place events) slot)
+      (sym (ne_eqb place turn.place differs)) open_with
+
+  open-behind_end : (end : ℕ) (session : MachineSession) → place ≢ end → OpenAt first post events place slot → OpenAt first post (inr (record { place = end; session = session }) ∷ events) place slot
+  open-behind_end end session differs open_with =
+      subst (λ (t : Bool). IsOpenWith first post (if t then [] else calls_at place events) (if t then [] else made_at place events) (if t then None else left_at place events) slot)
+      (sym (ne_eqb place end differs)) open_with
+
+none-ended : (first post : PostState ClockState) (events : List MachineEvent) (place : ℕ) (session : MachineSession) → OpenAt first post (inr (record { place = place; session = session }) ∷ events) place None
+none-ended first post events place session =
+    subst (λ (t : Bool). IsOpenWith first post (if t then [] else calls_at place events) (if t then [] else made_at place events) (if t then None else left_at place events) None)
+    (sym (eq-eqb place place refl)) (refl, refl, refl)
 
 -- ---- what happened so far, over what is open at each place
 worked-same : (first post : PostState ClockState) (had slots : ℕ → Option SessionState) → ((place : ℕ) → slots place ≡ had place) → HasWorked first post had → HasWorked first post slots
 worked-same first post had slots same w = record {
   events = w.events;
   lead = w.lead;
+  of_sessions = w.of_sessions;
   goes = w.goes;
   ended = w.ended;
-  each = λ place. subst (λ (s : Option SessionState). IsOpenWith first post (calls_at place w.events) s) (sym (same place)) (w.each place);
+  each = λ place. subst (λ (s : Option SessionState). OpenAt first post w.events place s) (sym (same place)) (w.each place);
 }
 
 worked-none : (post : PostState ClockState) → HasWorked post post (λ place. None)
-worked-none post = record { events = []; lead = refl; goes = post-same post post refl; ended = All-nil (IsServedBetween post post); each = λ place. refl }
+worked-none post = record { events = []; lead = refl; of_sessions = tt; goes = post-same post post refl; ended = All-nil (IsServedBetween post post); each = λ place. (refl, refl, refl) }
 
 -- a session begins
 worked-begun : (first post : PostState ClockState) (slots : ℕ → Option SessionState) (place : ℕ) (session : SessionState) → IsNew session → slots place ≡ None → HasWorked first post slots → HasWorked first post (put place (Some session) slots)
 worked-begun first post slots place session new vacant w =
-    let none : calls_at place w.events ≡ [] = subst (λ (s : Option SessionState). IsOpenWith first post (calls_at place w.events) s) vacant (w.each place) in
+    let (calls, made, left) : OpenAt first post w.events place None = subst (λ (s : Option SessionState). OpenAt first post w.events place s) vacant (w.each place) in
+    let g = begins first post session w.goes new in
+    let here : OpenAt first post w.events place (Some session) =
+    subst (λ (l : Option MachineStation). GoesOn first post (calls_at place w.events) (made_at place w.events) l session) (sym left)
+    (subst (λ (m : List MachineCall). GoesOn first post (calls_at place w.events) m None session) (sym made)
+    (subst (λ (c : List Call). GoesOn first post c [] None session) (sym calls) g)) in
     record {
       events = w.events;
       lead = w.lead;
+      of_sessions = w.of_sessions;
       goes = w.goes;
       ended = w.ended;
-      each = open-behind first post place (λ (p : ℕ). calls_at p w.events) slots (Some session) (begins first post (calls_at place w.events) session w.goes none new) (λ other differs. w.each other);
+      each = open-behind first post place w.events slots (Some session) here (λ other differs. w.each other);
     }
 
 -- turns of the session at a place
 worked-turned : (first post later : PostState ClockState) (slots : ℕ → Option SessionState) (place : ℕ) (old new : SessionState)
     → slots place ≡ Some old → Serves old post new later → HasWorked first post slots → HasWorked first later (put place (Some new) slots)
 worked-turned first post later slots place old new is s w =
-    let g : GoesOn first post (calls_at place w.events) old = subst (λ (slot : Option SessionState). IsOpenWith first post (calls_at place w.events) slot) is (w.each place) in
+    let g : OpenAt first post w.events place (Some old) = subst (λ (slot : Option SessionState). OpenAt first post w.events place slot) is (w.each place) in
     let on = s.stands g.begun g.bytes g.text g.stands in
     let turn : SessionTurn MachineGives clock_failures ClientSays = record { place = place; before = station_at post tt old.visit; calls = on.turn; after = station_at later tt new.visit; talked = on.talked } in
-    let event : MachineEvent = inl turn in
-    let events : List MachineEvent = event ∷ w.events in
-    let now : GoesOn first later (calls_at place w.events ++ on.turn) new = record {
+    let more = made_in MachineGives clock_failures ClientSays turn.before turn.calls turn.after turn.talked in
+    let events : List MachineEvent = inl turn ∷ w.events in
+    let now : GoesOn first later (calls_at place w.events ++ on.turn) (made_at place w.events ++ more) (Some turn.after) new = record {
       client = tt;
       begun = g.begun;
       begins = g.begins;
@@ -185,29 +284,37 @@ worked-turned first post later slots place old new is s w =
       wrote =
           subst (λ (from : Option (List ℕ)). Appends from new.written (g.text ++ s.text)) (sym s.first_written)
           (Appends-trans old.first_written old.written new.written g.text s.text g.wrote s.wrote);
+      comes = comes-turned g.begun post later (calls_at place w.events) on.turn (made_at place w.events) old.visit new.visit on.talked g.comes;
+      kept = refl;
     } in
     record {
       events = events;
       lead = (post, w.lead, (refl, refl));
+      of_sessions = (w.of_sessions, g.kept);
       goes = post-both first post later w.goes s.goes;
       ended = served-later first post later s.goes (sessions_of w.events) w.ended;
       each =
-          open-behind first later place (λ (p : ℕ). calls_at p events) slots (Some new)
-          (subst (λ (c : List Call). GoesOn first later c new) (sym (if-at place place (calls_at place w.events ++ on.turn) (calls_at place w.events) refl)) now)
+          open-behind first later place events slots (Some new) (open-turned first later w.events place (Some new) turn refl now)
           (λ other differs.
-          subst (λ (c : List Call). IsOpenWith first later c (slots other)) (sym (if-other other place (calls_at other w.events ++ on.turn) (calls_at other w.events) differs))
-          (open-later first post later (calls_at other w.events) (slots other) s.goes (w.each other)));
+          open-beside first later w.events other (slots other) turn differs
+          (open-later first post later (calls_at other w.events) (made_at other w.events) (left_at other w.events) (slots other) s.goes (w.each other)));
     }
 
 -- the last turns of the session at a place, with which it ends
 worked-last : (first post later : PostState ClockState) (slots : ℕ → Option SessionState) (place : ℕ) (old new : SessionState)
     → slots place ≡ Some old → ServesLast old post new later → HasWorked first post slots → HasWorked first later (put place None slots)
 worked-last first post later slots place old new is s w =
-    let g : GoesOn first post (calls_at place w.events) old = subst (λ (slot : Option SessionState). IsOpenWith first post (calls_at place w.events) slot) is (w.each place) in
+    let g : OpenAt first post w.events place (Some old) = subst (λ (slot : Option SessionState). OpenAt first post w.events place slot) is (w.each place) in
     let on = s.stands g.begun g.bytes g.text g.stands in
     let turn : SessionTurn MachineGives clock_failures ClientSays = record { place = place; before = station_at post tt old.visit; calls = on.turn; after = station_at later tt new.visit; talked = on.talked } in
-    let session : MachineSession = session-at g.begun later (g.bytes ++ s.heard) (g.text ++ (s.said ++ s.unsaid)) new.visit on.stands in
+    let more = made_in MachineGives clock_failures ClientSays turn.before turn.calls turn.after turn.talked in
     let turned : List MachineEvent = inl turn ∷ w.events in
+    let bytes = g.bytes ++ s.heard in
+    let text = g.text ++ (s.said ++ s.unsaid) in
+    let calls_are : on.stands.stood.session.calls ≡ calls_at place w.events ++ on.turn = on.calls_are ∙ ap (λ (l : List Call). l ++ on.turn) g.calls_are in
+    let comes = comes-turned g.begun post later (calls_at place w.events) on.turn (made_at place w.events) old.visit new.visit on.talked g.comes in
+    let session : MachineSession = session-at g.begun later bytes text new.visit on.stands (calls_at place w.events ++ on.turn) calls_are (made_at place w.events ++ more) comes in
+    let made_are = made-at g.begun later bytes text new.visit on.stands (calls_at place w.events ++ on.turn) calls_are (made_at place w.events ++ more) comes in
     let event : MachineEvent = inr (record { place = place; session = session }) in
     let events : List MachineEvent = event ∷ turned in
     record {
@@ -215,16 +322,23 @@ worked-last first post later slots place old new is s w =
       lead = (
         later,
         (post, w.lead, (refl, refl)),
-        (refl, on.calls_are ∙ ap (λ (l : List Call). l ++ on.turn) g.calls_are ∙ sym (if-at place place (calls_at place w.events ++ on.turn) (calls_at place w.events) refl)),
+        (refl, calls_are ∙ sym (if-at place place (calls_at place w.events ++ on.turn) (calls_at place w.events) refl)),
+      );
+      of_sessions = (
+        (w.of_sessions, g.kept),
+        (
+          subst (λ (left : Option MachineStation). StandsFrom left session.after) (sym (if-at place place (Some turn.after) (left_at place w.events) refl)) refl,
+          made_are (made_at place turned) (if-at place place (made_at place w.events ++ more) (made_at place w.events) refl),
+        ),
       );
       goes = post-both first post later w.goes s.goes;
-      ended = All-cons (IsServedBetween first later) session (sessions_of w.events) (g.begins, on.stands.goes) (served-later first post later s.goes (sessions_of w.events) w.ended);
+      ended = All-cons (IsServedBetween first later) session (sessions_of w.events) (g.begins, comes.goes) (served-later first post later s.goes (sessions_of w.events) w.ended);
       each =
-          open-behind first later place (λ (p : ℕ). calls_at p events) slots None (if-at place place [] (calls_at place turned) refl)
+          open-behind first later place events slots None (none-ended first later turned place session)
           (λ other differs.
-          subst (λ (c : List Call). IsOpenWith first later c (slots other))
-          (sym (if-other other place [] (calls_at other turned) differs ∙ if-other other place (calls_at other w.events ++ on.turn) (calls_at other w.events) differs))
-          (open-later first post later (calls_at other w.events) (slots other) s.goes (w.each other)));
+          open-behind_end first later turned other (slots other) place session differs
+          (open-beside first later w.events other (slots other) turn differs
+          (open-later first post later (calls_at other w.events) (made_at other w.events) (left_at other w.events) (slots other) s.goes (w.each other))));
     }
 
 -- the session at a place ends
@@ -233,19 +347,20 @@ worked-ended first post slots place None is w =
     worked-same first post slots (put place None slots)
     (λ other. sym (put-is place None slots other (slots other) (λ same. ap slots same ∙ is) (λ differs. refl))) w
 worked-ended first post slots place (Some found) is w =
-    let g : GoesOn first post (calls_at place w.events) found = subst (λ (s : Option SessionState). IsOpenWith first post (calls_at place w.events) s) is (w.each place) in
-    let session : MachineSession = session-at g.begun post g.bytes g.text found.visit g.stands in
+    let g : OpenAt first post w.events place (Some found) = subst (λ (s : Option SessionState). OpenAt first post w.events place s) is (w.each place) in
+    let session : MachineSession = session-at g.begun post g.bytes g.text found.visit g.stands (calls_at place w.events) g.calls_are (made_at place w.events) g.comes in
+    let made_are = made-at g.begun post g.bytes g.text found.visit g.stands (calls_at place w.events) g.calls_are (made_at place w.events) g.comes in
     let event : MachineEvent = inr (record { place = place; session = session }) in
     let events : List MachineEvent = event ∷ w.events in
     record {
       events = events;
       lead = (post, w.lead, (refl, g.calls_are));
+      of_sessions = (w.of_sessions, (from-later (left_at place w.events) (station_at post tt found.visit) g.comes.last g.kept, made_are (made_at place w.events) refl));
       goes = w.goes;
-      ended = All-cons (IsServedBetween first post) session (sessions_of w.events) (g.begins, g.stands.goes) w.ended;
+      ended = All-cons (IsServedBetween first post) session (sessions_of w.events) (g.begins, g.comes.goes) w.ended;
       each =
-          open-behind first post place (λ (p : ℕ). calls_at p events) slots None (if-at place place [] (calls_at place w.events) refl)
-          (λ other differs.
-          subst (λ (c : List Call). IsOpenWith first post c (slots other)) (sym (if-other other place [] (calls_at other w.events) differs)) (w.each other));
+          open-behind first post place events slots None (none-ended first post w.events place session)
+          (λ other differs. open-behind_end first post w.events other (slots other) place session differs (w.each other));
     }
 
 -- each session ends, where none is open from a place on
@@ -327,7 +442,7 @@ module _ (first post : PostState ClockState) where
       record {
         last = post;
         sessions = sessions_of over.events;
-        by_turns = record { events = over.events; lead = over.lead; sessions_are = refl; none_goes_on = over.each };
+        by_turns = record { events = over.events; lead = over.lead; of_sessions = over.of_sessions; sessions_are = refl; none_goes_on = λ place. (over.each place).0 };
         between = over.ended;
         goes = over.goes;
         watch_is = watch_is;

@@ -3,14 +3,15 @@ use Rattle.std.specs.Prelude.{◌≡◌, ◌≤◌, ◌+◌, ◌^◌, ℕ, List,
 use Rattle.std.specs.Io.KnownBytes.{Appends, Consumes, prepend_known}
 use Rattle.tt_publish.specs.Known.{WatchState}
 use Rattle.tt_stamp.specs.Stamping.{SeatState}
+use Rattle.tt_session.specs.Conversation.{Conversation}
 use Rattle.tt_session.specs.declared.calls.Call.{Call}
 use Rattle.tt_clock.specs.Clock.{ClockState, MachineGives}
 use Rattle.tt_connections.specs.Client.{ClientSays}
-use Rattle.tt_connections.specs.Station.{PostState}
-use Rattle.tt_connections.specs.Turns.{PostGoesOn}
+use Rattle.tt_connections.specs.Station.{PostState, StationState, new_station}
+use Rattle.tt_connections.specs.Turns.{PostGoesOn, AllowsOn}
 use Rattle.tt_connections.specs.Sessions.{WorkerSession, AreServedBetween}
-use Rattle.tt_connections.specs.Visits.{VisitState, StandsAt, StandsOn, new_visit}
-use Rattle.tt_workers.specs.Happening.{WorkerEvent, AreAllByTurns, calls_at, LeadFrom, sessions_of}
+use Rattle.tt_connections.specs.Visits.{VisitState, StandsAt, StandsOn, new_visit, station_at}
+use Rattle.tt_workers.specs.Happening.{WorkerEvent, MadeCall, AreAllByTurns, AreOfSessions, StandsFrom, calls_at, left_at, made_at, made_on, LeadFrom, sessions_of}
 use Rattle.slab.specs.Slab.{Slab}
 
 -- how often the clock of a machine has failed
@@ -28,6 +29,14 @@ MachineSession = WorkerSession MachineGives clock_failures ClientSays max_waits
 -- what happens at a worker of the machine
 abbrev pub MachineEvent : Type 0
 MachineEvent = WorkerEvent MachineGives clock_failures ClientSays max_waits
+
+-- a call at a worker of the machine, as it was made
+abbrev pub MachineCall : Type 0
+MachineCall = MadeCall MachineGives clock_failures ClientSays
+
+-- a session of a worker of the machine, from state to state
+abbrev pub MachineStation : Type 0
+MachineStation = StationState ClockState (Unit {0})
 
 -- a session that is open, with its connection: what is kept of it; the bytes that it holds, and those that its connection still gives; what was written to its connection; and what the last two were when it began. What its connection gives and what was written is there if the connection keeps it
 pub record SessionState : Type 0 where
@@ -103,8 +112,15 @@ pub record WorkerState : Type 0 where
   pub post : PostState ClockState
   pub sessions : Slab SessionState
 
--- a session with these calls goes on: it began at a post that the first one had become. It stands by the bytes that its connection gave since, without those that it has not heard, and by the replies that were written there since
-pub record GoesOn (first post : PostState ClockState) (calls : List Call) (session : SessionState) : Type 0 where
+-- by these calls as they were made, a session that began at the first post came to its lease and its book, at a post from which this one went on
+pub record ComesTo (begun : PostState ClockState) (client : Unit {0}) (calls : List Call) (made : List MachineCall) (visit : VisitState) (post : PostState ClockState) : Type 0 where
+  pub last : PostState ClockState
+  pub goes : PostGoesOn last post
+  pub talked : Conversation (AllowsOn MachineGives clock_failures ClientSays) (new_station begun client) calls (station_at last client visit)
+  pub made_are : made_on MachineGives clock_failures ClientSays (new_station begun client) calls (station_at last client visit) talked ≡ made
+
+-- a session with these calls goes on: it began at a post that the first one had become. It stands by the bytes that its connection gave since, without those that it has not heard, and by the replies that were written there since. By its calls as they were made it came to what its last turn left
+pub record GoesOn (first post : PostState ClockState) (calls : List Call) (made : List MachineCall) (left : Option MachineStation) (session : SessionState) : Type 0 where
   pub client : Unit {0}
   pub begun : PostState ClockState
   pub begins : PostGoesOn first begun
@@ -114,19 +130,22 @@ pub record GoesOn (first post : PostState ClockState) (calls : List Call) (sessi
   pub calls_are : stands.stood.session.calls ≡ calls
   pub gave : Consumes session.first_left (unheard session) bytes
   pub wrote : Appends session.first_written session.written text
+  pub comes : ComesTo begun client calls made session.visit post
+  pub kept : StandsFrom left (station_at post client session.visit)
 
--- where a session is open, it goes on with the calls at its place; at any other place there are none
-abbrev pub IsOpenWith : PostState ClockState → PostState ClockState → List Call → Option SessionState → Type 0
-IsOpenWith first post calls (Some session) = GoesOn first post calls session
-IsOpenWith first post calls None = calls ≡ []
+-- where a session is open, it goes on with the calls at its place, as they were made, and with what its last turn left; at any other place there are none, and nothing was left
+abbrev pub IsOpenWith : PostState ClockState → PostState ClockState → List Call → List MachineCall → Option MachineStation → Option SessionState → Type 0
+IsOpenWith first post calls made left (Some session) = GoesOn first post calls made left session
+IsOpenWith first post calls made left None = (calls ≡ []) × (made ≡ []) × (left ≡ None)
 
 -- from the first post to this one there were turns alone, of sessions that have ended since or are open, each at its place
 pub record HasWorked (first post : PostState ClockState) (open_at : ℕ → Option SessionState) : Type 0 where
   pub events : List MachineEvent
   pub lead : LeadFrom first events post
+  pub of_sessions : AreOfSessions events
   pub goes : PostGoesOn first post
   pub ended : AreServedBetween first post (sessions_of events)
-  pub each : (place : ℕ) → IsOpenWith first post (calls_at place events) (open_at place)
+  pub each : (place : ℕ) → IsOpenWith first post (calls_at place events) (made_at place events) (left_at place events) (open_at place)
 
 -- the post, or else this one
 abbrev pub post_or : PostState ClockState → Option (PostState ClockState) → PostState ClockState

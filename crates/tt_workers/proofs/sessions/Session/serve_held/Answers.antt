@@ -1,4 +1,4 @@
-use Rattle.std.proofs.Common.{[], ap, subst, sym, ◌∙◌}
+use Rattle.std.proofs.Common.{[], subst, sym, ◌∙◌}
 use Rattle.tt_workers.specs.Worker.{SessionState}
 use Rattle.tt_workers.proofs.Hearing.{Takes, err-is, ok-is, serves-fed, serves-last, takes-held}
 use Rattle.tt_workers.proofs.sessions.Session.serve_held.Goals as goal
