@@ -14,3 +14,4 @@ pub mod Begun
 pub mod FirstTurns
 pub mod CutLists
 pub mod WorkedCuts
+pub mod Timing

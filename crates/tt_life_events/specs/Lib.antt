@@ -4,3 +4,4 @@ pub mod Threads
 pub mod Turns
 pub mod Lists
 pub mod Beginnings
+pub mod Timing

@@ -5,17 +5,21 @@
 //!
 //! Such a list is a list of events of the model of true time (`tt_world`), which replies to each reading and each stamp
 //! as the life did. A life whose workers share one sequencer has such a list. So has each cut of such a life, which is what
-//! its threads had done by some moment.
+//! its threads had done by some moment. And what is assumed of the sessions of a life follows from what is assumed of the
+//! turns of its workers.
 //!
 //! - `merging`: `merging_laws`. `listing`: `event_list_laws`. `living`: `life_list_laws`. `cutting`: `cut_list_laws`.
+//! - `turning`: `turn_laws`.
 #![tactic(auto)]
 
 mod cutting;
 mod listing;
 mod living;
 mod merging;
+mod turning;
 
 pub use cutting::cut_list_laws;
 pub use listing::event_list_laws;
 pub use living::life_list_laws;
 pub use merging::merging_laws;
+pub use turning::turn_laws;
