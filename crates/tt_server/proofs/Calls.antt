@@ -101,37 +101,45 @@ heard-call does end_of rounds turns events clock clock' link link' daemon daemon
 }
 
 -- the clock may have shown less before the call, and show more after it
-pub MakesCall-wider : (before after : Kept) (shown shown' first last : ℕ) → first ≤ shown → shown' ≤ last → MakesCall before after shown shown' → MakesCall before after first last
-MakesCall-wider before after shown shown' first last from to made =
+pub MakesHeardCall-wider : (wire : Wiring) (before after : Kept) (shown shown' first last : ℕ) → first ≤ shown → shown' ≤ last → MakesHeardCall wire before after shown shown' → MakesHeardCall wire before after first last
+MakesHeardCall-wider wire before after shown shown' first last from to did =
+    let made = did.made in
     let (low, high, least, rise, most) = made.rises in record {
-      call = made.call;
-      leads = made.leads;
-      begins = made.begins;
-      ends = made.ends;
-      rises = (low, high, omega (arith, least, from), rise, omega (arith, most, to));
+      made = record {
+        call = made.call;
+        leads = made.leads;
+        begins = made.begins;
+        ends = made.ends;
+        rises = (low, high, omega (arith, least, from), rise, omega (arith, most, to));
+      };
+      heard = did.heard;
     }
 
--- the daemon before the call and after it may be told by others that are the same
-pub MakesCall-same : (before after daemon daemon' : DaemonState) (items items' : List Publication) (shown shown' : ℕ) → before ≡ daemon → daemon' ≡ after
-    → MakesCall (kept_with before items) (kept_with after items') shown shown' → MakesCall (kept_with daemon items) (kept_with daemon' items') shown shown'
-MakesCall-same before after daemon daemon' items items' shown shown' from to made =
-    subst (λ (d : DaemonState). MakesCall (kept_with d items) (kept_with daemon' items') shown shown') from
-    (subst (λ (d : DaemonState). MakesCall (kept_with before items) (kept_with d items') shown shown') (sym to) made)
+-- the wire, and the daemon before the call and after it, may be told by others that are the same
+pub MakesHeardCall-same : (over wire : Wiring) (before after daemon daemon' : DaemonState) (items items' : List Publication) (shown shown' : ℕ) → over ≡ wire → before ≡ daemon → daemon' ≡ after
+    → MakesHeardCall over (kept_with before items) (kept_with after items') shown shown' → MakesHeardCall wire (kept_with daemon items) (kept_with daemon' items') shown shown'
+MakesHeardCall-same over wire before after daemon daemon' items items' shown shown' same from to did =
+    subst (λ (w : Wiring). MakesHeardCall w (kept_with daemon items) (kept_with daemon' items') shown shown') same
+    (subst (λ (d : DaemonState). MakesHeardCall over (kept_with d items) (kept_with daemon' items') shown shown') from
+    (subst (λ (d : DaemonState). MakesHeardCall over (kept_with before items) (kept_with d items') shown shown') (sym to) did))
 
 -- ---- all calls
 
 -- no call was made
-pub no-calls : (begun : Kept) (from to : ℕ) → from ≤ to → CallsInTurn begun begun from to
-no-calls begun from to le = ([], tt, refl, le)
+pub no-calls : (wire : Wiring) (begun : Kept) (from to : ℕ) → from ≤ to → CallsInTurn wire begun begun from to
+no-calls wire begun from to le = ([], tt, refl, le, tt)
 
--- one more call was made
-pub one-more : (begun before after : Kept) (from shown shown' : ℕ) → CallsInTurn begun before from shown → MakesCall before after shown shown' → CallsInTurn begun after from shown'
-one-more begun before after from shown shown' did made =
-    let (calls, turn, kept, rise) = did in
+-- one more call was made, over the same wire
+pub one-more : (over wire : Wiring) (begun before after : Kept) (from shown shown' : ℕ) → over ≡ wire → CallsInTurn wire begun before from shown → MakesHeardCall over before after shown shown' → CallsInTurn wire begun after from shown'
+one-more over wire begun before after from shown shown' same did more =
+    let (calls, turn, kept, rise, heard) = did in
+    let made = more.made in
     let (low, high, least, rises, most) = made.rises in
-    (made.call ∷ calls, (made.leads, made.begins ∙ sym kept, turn), made.ends, (low, high, RiseIn-later from shown low calls rise least, rises, most))
+    let hears : (packet : Packet) → Contains made.call.given.gifts (Came packet) → HandsUp wire (Came packet) =
+    λ packet there. subst (λ (w : Wiring). HandsUp w (Came packet)) same (more.heard packet there) in
+    (made.call ∷ calls, (made.leads, made.begins ∙ sym kept, turn), made.ends, (low, high, RiseIn-later from shown low calls rise least, rises, most), (hears, heard))
 
 -- the clock may show more after the calls
-pub calls-later : (begun after : Kept) (from shown shown' : ℕ) → CallsInTurn begun after from shown → shown ≤ shown' → CallsInTurn begun after from shown'
-calls-later begun after from shown shown' did le =
-    let (calls, turn, kept, rise) = did in (calls, turn, kept, RiseIn-later from shown shown' calls rise le)
+pub calls-later : (wire : Wiring) (begun after : Kept) (from shown shown' : ℕ) → CallsInTurn wire begun after from shown → shown ≤ shown' → CallsInTurn wire begun after from shown'
+calls-later wire begun after from shown shown' did le =
+    let (calls, turn, kept, rise, heard) = did in (calls, turn, kept, RiseIn-later from shown shown' calls rise le, heard)

@@ -19,10 +19,12 @@ use Rattle.tt_workers.specs.Worker.{WorkerServed}
 use Rattle.tt_epoch.specs.Disk.{Call, Gift, Gave, NotOwn, Done, Broke, number_of}
 use Rattle.tt_epoch.specs.Course.{Stage, Reads, Writes, Syncs, Installs, Fixes, Answered, Over, step_of, stage_after, Takes}
 use Rattle.tt_epoch.specs.declared.faults.EpochFault.TheVariants.{UsedUp}
+use Rattle.tt_wire.specs.Wire.{Wiring}
 use Rattle.tt_settings.specs.Settings.{Meaning}
 use Rattle.tt_settings.specs.declared.forms.OnBreak.{OnBreak}
 use Rattle.tt_settings.specs.declared.plans.Pauses.{Pauses}
 use Rattle.tt_consistency.specs.Calls.{RoundsCall, AreInTurn, RiseIn, kept_after}
+use Rattle.tt_consistency.specs.Coming.{AreHeard}
 use Rattle.tt_consistency.specs.Steps.{Kept}
 use Rattle.tt_node.specs.Sharing.{AllFrom}
 use Rattle.tt_consistency.specs.Lives.{IsLife, WorksIn}
@@ -33,6 +35,7 @@ use Rattle.tt_server.specs.declared.lives.LifeEnd.{LifeEnd}
 use Rattle.tt_server.specs.declared.lives.WorkerEnd.{WorkerEnd}
 use Rattle.tt_server.specs.Break.{EndsBy}
 use Rattle.tt_server.specs.Life.{ServerWorker, ServerLife, ServesByTurns, HandsBack, HandsShare, HandShares, TellOfEach, TellsOf}
+use Rattle.tt_server.specs.Ring.{IsWireTo}
 use Rattle.tt_server.specs.Thread.{HasSettings, terms_in, widest_in}
 
 -- ---- epochs
@@ -199,23 +202,24 @@ told-of watch terms table seats history number published (end ∷ ends) all begi
     }
 
 -- ---- a life
--- the calls of a daemon that began so, up to what it has published
-abbrev pub HasCalled : DaemonState → DaemonState → List Publication → ℕ → Type 0
-HasCalled from to published shown = (calls : List RoundsCall) × AreInTurn (record { daemon = from; published = [] }) calls
+-- the calls of a daemon that began so, over this wire, up to what it has published
+abbrev pub HasCalled : Wiring → DaemonState → DaemonState → List Publication → ℕ → Type 0
+HasCalled wire from to published shown = (calls : List RoundsCall) × AreInTurn (record { daemon = from; published = [] }) calls
     × (kept_after (record { daemon = from; published = [] }) calls ≡ record { daemon = to; published = map fused_span_of published })
-    × RiseIn 0 calls shown
+    × RiseIn 0 calls shown × AreHeard wire calls
 
 -- the calls of a daemon whose clock began at 0, up to what its teller told
-pub has-called : (from to : DaemonState) (published told : List Publication) (first shown : ℕ) → first ≡ 0 → told ≡ published
+pub has-called : (wire : Wiring) (from to : DaemonState) (published told : List Publication) (first shown : ℕ) → first ≡ 0 → told ≡ published
     → (calls : List RoundsCall) × AreInTurn (record { daemon = from; published = [] }) calls
     × (kept_after (record { daemon = from; published = [] }) calls ≡ record { daemon = to; published = map fused_span_of published })
-    × RiseIn first calls shown
-    → HasCalled from to told shown
-has-called from to published told first shown none same called = subst (λ (items : List Publication). HasCalled from to items shown) (sym same) (
+    × RiseIn first calls shown × AreHeard wire calls
+    → HasCalled wire from to told shown
+has-called wire from to published told first shown none same called = subst (λ (items : List Publication). HasCalled wire from to items shown) (sym same) (
   called.0,
   called.1,
   called.2,
   subst (λ (n : ℕ). RiseIn n called.0 shown) none called.3,
+  called.4,
 )
 
 -- what the workers handed back, as their watches are of the source that was told
@@ -232,21 +236,22 @@ share-one table history workers count len legal each = record {
 }
 
 -- a life that ended, from what its threads handed back
-pub life-ended : (settings : Meaning) (current : Current) (end : LifeEnd) (from to : DaemonState) (shown : ℕ)
+pub life-ended : (settings : Meaning) (current : Current) (end : LifeEnd) (wire : Wiring) (from to : DaemonState) (shown : ℕ)
     → HasSettings settings current → IsConfiguration current.config → current.epoch < 2 ^ 64
+    → IsWireTo settings.masters wire
     → from ≡ new_daemon settings.machine current.config current.epoch
-    → HasCalled from to end.published.items shown
+    → HasCalled wire from to end.published.items shown
     → HandShares (new_watch end.published.source current.config.drift) (terms_in current) end.workers.items
     → All (Begins end.published.items) end.workers.items
     → end.epoch ≡ current.epoch → length end.workers.items ≡ settings.config.workers
     → EndsBy current.on_break current.config.drift (map fused_span_of end.published.items) end.broken
     → (life : ServerLife) × TellsOf settings end life
-life-ended settings current end from to shown has configured below new called handed begin epoch count breaks =
+life-ended settings current end wire from to shown has configured below wired new called handed begin epoch count breaks =
     let watch = new_watch end.published.source current.config.drift in
     let terms = terms_in current in
     let published = end.published.items in
     let told = told-of watch terms handed.table (length end.workers.items) handed.history 0 published end.workers.items handed.each begin in
-    let (calls, in_turn, kept, rise) = subst (λ (d : DaemonState). HasCalled d to published shown) new called in
+    let (calls, in_turn, kept, rise, heard) = subst (λ (d : DaemonState). HasCalled wire d to published shown) new called in
     let life : ServerLife = record {
       config = current.config;
       number = settings.machine;
@@ -281,6 +286,7 @@ life-ended settings current end from to shown has configured below new called ha
       life,
       record {
         is_life = is_life;
+        heard = record { wire = wire; is_wire = wired; heard = heard };
         config = has.config;
         number = refl;
         lease = has.lease;

@@ -12,11 +12,16 @@ use Rattle.tt_clock.specs.Clock.{MachineGives}
 use Rattle.tt_connections.specs.Client.{ClientSays}
 use Rattle.tt_workers.specs.Happening.{AreAllByTurns}
 use Rattle.tt_workers.specs.Worker.{clock_failures, max_waits}
+use Rattle.tt_wire.specs.Wire.{Wiring}
+use Rattle.tt_settings.specs.Master.{Master}
 use Rattle.tt_settings.specs.Settings.{Meaning}
 use Rattle.tt_node.specs.Sharing.{AllFrom}
+use Rattle.tt_consistency.specs.Calls.{RoundsCall}
+use Rattle.tt_consistency.specs.Coming.{AreHeard}
 use Rattle.tt_consistency.specs.Lives.{Life, WorkerLife, IsLife}
 use Rattle.tt_consistency.specs.Sequencer.{HasSeatOf, ShareOneSequencer}
 use Rattle.tt_server.specs.Break.{EndsBy}
+use Rattle.tt_server.specs.Ring.{IsWireTo}
 use Rattle.tt_server.specs.Thread.{widest_in}
 use Rattle.tt_server.specs.declared.lives.LifeEnd.{LifeEnd}
 use Rattle.tt_server.specs.declared.lives.WorkerEnd.{WorkerEnd}
@@ -67,9 +72,16 @@ TellOfEach [] [] = Unit {0}
 TellOfEach (end ∷ ends) (worker ∷ workers) = (end.seen ≡ seen_of worker.last.watch) × TellOfEach ends workers
 TellOfEach _ _ = ⊥
 
+-- each packet that these calls were given was handed up over one wire to these masters: over the keys that the settings name for them
+pub record HearsOver (masters : List Master) (calls : List RoundsCall) : Type 0 where
+  pub wire : Wiring
+  pub is_wire : IsWireTo masters wire
+  pub heard : AreHeard wire calls
+
 -- a life of a machine with these settings ended so
 pub record TellsOf (settings : Meaning) (end : LifeEnd) (life : ServerLife) : Type 0 where
   pub is_life : IsLife life
+  pub heard : HearsOver settings.masters life.calls
   pub config : life.config ≡ settings.config
   pub number : life.number ≡ settings.machine
   pub lease : life.lease ≡ settings.lease

@@ -1,6 +1,7 @@
 -- The keys that are shared with each master.
 use Rattle.std.specs.Prelude.{◌≡◌, ◌⊎◌, ℕ, List, [], ◌∷◌, ok_or, Result, Ok, Err}
-use Rattle.tt_seal.specs.Sealing.{SealKey, key_with}
+use Rattle.tt_seal.specs.Sealing.{SealKey, key_with, HaveOwnNumbers}
+use Rattle.tt_wire.specs.Wire.{Wiring, IsWiring}
 use Rattle.tt_settings.specs.Master.{Master}
 use Rattle.tt_server.specs.declared.faults.ServerFault.{ServerFault}
 use Rattle.tt_server.specs.declared.faults.ServerFault.TheVariants.{NoKey, Memory}
@@ -38,3 +39,14 @@ rings_of keys masters = each (ring_for keys) masters
 -- why there is no answer: the defined refusal, or an allocation failed
 abbrev pub IsRefusal : {A : Type 0} → Result A ServerFault → ServerFault → Type 0
 IsRefusal defined fault = (fault ≡ Memory) ⊎ (defined ≡ Err fault)
+
+-- these are the keys of each of these masters: those with its numbers, in their order, from a list of keys of which no two have the same number
+pub record AreRingsTo (masters : List Master) (rings : List (List SealKey)) : Type 0 where
+  pub keys : List SealKey
+  pub own : HaveOwnNumbers keys
+  pub found : rings_of keys masters ≡ Ok rings
+
+-- a wire to these masters: the keys of peer i are those of master i, and nonces are moved by less than 2^63
+pub record IsWireTo (masters : List Master) (wire : Wiring) : Type 0 where
+  pub rings : AreRingsTo masters wire.rings
+  pub moves : IsWiring wire

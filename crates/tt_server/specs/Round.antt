@@ -9,6 +9,7 @@ use Rattle.tt_rounds.specs.Making.{Leads}
 use Rattle.tt_rounds.specs.RoundLinks.{HandsUp}
 use Rattle.tt_wire.specs.Wire.{Wiring}
 use Rattle.tt_consistency.specs.Calls.{AreInTurn, Rise, RiseIn, RoundsCall, kept_after}
+use Rattle.tt_consistency.specs.Coming.{AreHeard}
 use Rattle.tt_consistency.specs.CourseSteps.{kept_in}
 use Rattle.tt_consistency.specs.Steps.{Kept}
 use Rattle.tt_telemetry.specs.declared.records.Totals.{Totals}
@@ -30,9 +31,10 @@ pub record MakesHeardCall (wire : Wiring) (before after : Kept) (shown shown' : 
   pub made : MakesCall before after shown shown'
   pub heard : (packet : Packet) → Contains made.call.given.gifts (Came packet) → HandsUp wire (Came packet)
 
--- calls came one after another and left this, and no reading in them is below one before it
-abbrev pub CallsInTurn : Kept → Kept → ℕ → ℕ → Type 0
-CallsInTurn begun after shown shown' = (calls : List RoundsCall) × AreInTurn begun calls × (kept_after begun calls ≡ after) × RiseIn shown calls shown'
+-- calls came one after another and left this, no reading in them is below one before it, and each packet in them was handed up over this wire
+abbrev pub CallsInTurn : Wiring → Kept → Kept → ℕ → ℕ → Type 0
+CallsInTurn wire begun after shown shown' =
+    (calls : List RoundsCall) × AreInTurn begun calls × (kept_after begun calls ≡ after) × RiseIn shown calls shown' × AreHeard wire calls
 
 -- how many turns a round has: more than one for each source
 abbrev pub turns_of : ℕ → ℕ

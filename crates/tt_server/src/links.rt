@@ -3,6 +3,8 @@
 ghost use Rattle.std.specs.Prelude.{◌≡◌, IfOk, map};
 ghost use Rattle.tt_settings.specs.Master.{Master};
 ghost use Rattle.tt_settings.specs.Socket.{address_of};
+ghost use Rattle.tt_wire.specs.Wire.{keys_in};
+ghost use Rattle.tt_server.specs.Ring.{AreRingsTo, IsWireTo};
 
 use crate::faults::ServerFault;
 use crate::names::{NameTable, Names, has_names, patience_of};
@@ -122,7 +124,9 @@ fn rings_in_file<R: Files<File = File>>(
     alloc: Global,
     settings: &Settings,
     reach: Reach,
-) -> Result<Vec<Ring>, ServerFault> {
+) -> Result<Vec<Ring>, ServerFault>
+    ensures found { IfOk result (λ rings. AreRingsTo settings.now.masters (map keys_in rings.items)) }
+{
     let keys = keys_in_file(rt, alloc, settings)?;
     let masters = settings.masters();
     let rings = rings_of(alloc, keys.as_slice(), masters)?;
@@ -150,7 +154,9 @@ fn wire_of<R: Files<File = File> + RandomSource>(
     alloc: Global,
     settings: &Settings,
     reach: Reach,
-) -> Result<Wire, ServerFault> {
+) -> Result<Wire, ServerFault>
+    ensures wire { IfOk result (λ wire. IsWireTo settings.now.masters wire) }
+{
     let rings = rings_in_file(rt, alloc, settings, reach)?;
     let ahead = draw_ahead(rt)?;
     Ok(Wire::new(rings, ahead))
@@ -161,7 +167,9 @@ pub(crate) fn link_to<'a, R: SystemClock + Net + Files<File = File> + RandomSour
     rt: &'a R,
     alloc: Global,
     settings: &Settings,
-) -> Result<(Polling<'a, R>, Waker), ServerFault> {
+) -> Result<(Polling<'a, R>, Waker), ServerFault>
+    ensures wire { IfOk result (λ made. IsWireTo settings.now.masters made.0.link.hearing.wire) }
+{
     let masters = settings.masters();
     let reach = reach_of(rt, settings);
     let wire = wire_of(rt, alloc, settings, reach)?;

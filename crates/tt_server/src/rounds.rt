@@ -3,6 +3,7 @@
 ghost use Rattle.std.specs.Prelude.{◌≡◌, ◌≤◌, List, [], map, None};
 ghost use Rattle.tt_publish.specs.Reading.{fused_span_of};
 ghost use Rattle.tt_consistency.specs.Calls.{AreInTurn, RiseIn, RoundsCall, kept_after};
+ghost use Rattle.tt_consistency.specs.Coming.{AreHeard};
 ghost use Rattle.tt_server.specs.Break.{Compares, EndsBy, GoesRound, LooksAtHost, MayBreak, Settles, broken_by, came_in, last_with, seen_in, with_came};
 ghost use Rattle.tt_server.specs.Name.{IsNews};
 ghost use Rattle.tt_status.specs.Reason.{reason_told};
@@ -92,6 +93,7 @@ impl<'a, R> Poller<'a, R> {
         vmclock: Option<&'a str>,
     ) -> Poller<'a, R>
         ensures daemon { result.daemon ≡ daemon }
+        ensures wire { result.polled.link.hearing.wire ≡ polled.entry.link.hearing.wire }
         ensures shown { result.shown ≡ None }
         ensures broken { result.broken ≡ None }
     {
@@ -693,7 +695,7 @@ fn go_round<R: Wait + SystemClock + HostClocks + Files<File = File>>(
     clock: &mut MachineClock<'_, R>,
     teller: &mut Teller,
 )
-    ensures call { MakesCall (kept_with poller.old.daemon teller.old.items) (kept_with poller.new.daemon teller.new.items) clock.old.last clock.new.last }
+    ensures heard { MakesHeardCall poller.old.polled.link.hearing.wire (kept_with poller.old.daemon teller.old.items) (kept_with poller.new.daemon teller.new.items) clock.old.last clock.new.last }
     ensures source { teller.new.source ≡ teller.old.source }
     ensures wire { poller.new.polled.link.hearing.wire ≡ poller.old.polled.link.hearing.wire }
     ensures breaks { GoesRound context.entry.server.now.life.on_break context.entry.server.now.life.config.drift (map fused_span_of teller.old.items) (map fused_span_of teller.new.items) (seen_in poller.old.shown) (seen_in poller.new.shown) poller.old.broken poller.new.broken }
@@ -766,10 +768,10 @@ pub(crate) fn run_daemon<R: Wait + SystemClock + HostClocks + Files<File = File>
     requires none_shown { poller.old.shown ≡ None }
     requires unbroken { poller.old.broken ≡ None }
     // The rounds were calls one after another, and what they left of the daemon and the publications is what there is.
-    // No reading of the clock in them is below one before it.
+    // No reading of the clock in them is below one before it, and each packet in them was handed up over the wire.
     ensures calls { (calls : List RoundsCall) × AreInTurn (record { daemon = poller.old.daemon; published = [] }) calls
         × (kept_after (record { daemon = poller.old.daemon; published = [] }) calls ≡ record { daemon = poller.new.daemon; published = map fused_span_of teller.new.items })
-        × RiseIn clock.old.last calls clock.new.last }
+        × RiseIn clock.old.last calls clock.new.last × AreHeard poller.old.polled.link.hearing.wire calls }
     ensures source { teller.new.source ≡ teller.old.source }
     ensures wire { poller.new.polled.link.hearing.wire ≡ poller.old.polled.link.hearing.wire }
     // Each publication met the one before it, or it was the last, and the life ends because of that.

@@ -10,6 +10,7 @@ ghost use Rattle.tt_publish.specs.Reading.{fused_span_of};
 ghost use Rattle.tt_stamp.specs.Stamping.{new_seat};
 ghost use Rattle.tt_server.specs.Break.{EndsBy};
 ghost use Rattle.tt_server.specs.Life.{ServerLife, HandShares, TellsOf};
+ghost use Rattle.tt_server.specs.Ring.{IsWireTo};
 ghost use Rattle.tt_server.specs.Round.{side_workers_of};
 ghost use Rattle.tt_server.specs.Thread.{AreNewSeats, AreReady, HasSettings, ServesAt, terms_in};
 
@@ -336,6 +337,7 @@ fn run_threads<'s, E, R: ServerHost>(
     requires nothing { teller.old.items ≡ [] }
     requires meant { HasSettings settings.now context.server.now.life }
     requires ready { AreReady settings.now teller.old.source parts.posts.watches.items parts.posts.sequencer.now parts.posts.seats.items parts.joins.most }
+    requires wired { IsWireTo settings.now.masters parts.polling.link.hearing.wire }
     ensures epoch { IfOk result (λ end. end.epoch ≡ context.entry.server.now.life.epoch) }
     ensures life { IfOk result (λ end. (life : ServerLife) × TellsOf settings.now end life) }
 {
@@ -415,6 +417,7 @@ fn run<'n, R: ServerHost>(
     requires nothing { teller.old.items ≡ [] }
     requires meant { HasSettings settings.now context.server.now.life }
     requires ready { AreReady settings.now teller.old.source parts.posts.watches.items parts.posts.sequencer.now parts.posts.seats.items parts.joins.most }
+    requires wired { IsWireTo settings.now.masters parts.polling.link.hearing.wire }
     ensures epoch { IfOk result (λ end. end.epoch ≡ context.entry.server.now.life.epoch) }
     ensures life { IfOk result (λ end. (life : ServerLife) × TellsOf settings.now end life) }
 {
@@ -424,7 +427,8 @@ fn run<'n, R: ServerHost>(
         rt,
         move |scope| -> Result<LifeEnd, ServerFault>
             requires { (lent.now.items ≡ []) × HasSettings settings.now context.server.now.life
-                × AreReady settings.now lent.now.source parts.posts.watches.items parts.posts.sequencer.now parts.posts.seats.items parts.joins.most }
+                × AreReady settings.now lent.now.source parts.posts.watches.items parts.posts.sequencer.now parts.posts.seats.items parts.joins.most
+                × IsWireTo settings.now.masters parts.polling.link.hearing.wire }
             ensures { IfOk result (λ end. end.epoch ≡ context.entry.server.now.life.epoch)
                 × IfOk result (λ end. (life : ServerLife) × TellsOf settings.entry.now end life) }
         { run_threads(scope, context, settings, parts, lent, until_eof) },
@@ -486,6 +490,7 @@ fn run_life<'n, R: ServerHost, S: Store>(
 ) -> Result<LifeEnd, ServerFault>
     requires nothing { teller.old.items ≡ [] }
     requires ready { AreReady start.settings.now teller.old.source parts.posts.watches.items parts.posts.sequencer.now parts.posts.seats.items parts.joins.most }
+    requires wired { IsWireTo start.settings.now.masters parts.polling.link.hearing.wire }
     // The epoch of the life is the one that the store gave.
     ensures epoch { IfOk result (λ end. Takes S.does Reads store.old store.new (Ok end.epoch)) }
     ensures life { IfOk result (λ end. (life : ServerLife) × TellsOf start.entry.settings.now end life) }
@@ -565,6 +570,7 @@ fn run_behind<'n, 'e, R: ServerHost>(
     polling: Polling<'n, R>,
     store: &mut FolderStore<'e, R>,
 ) -> Result<LifeEnd, ServerFault>
+    requires wired { IsWireTo start.settings.now.masters polling.link.hearing.wire }
     ensures life { IfOk result (λ end. (life : ServerLife) × TellsOf start.entry.settings.now end life) }
 {
     watch_all(&acceptor, start.listeners)?;
@@ -600,7 +606,9 @@ fn open_all<'n, R: ServerHost>(
     rt: &'n R,
     alloc: Global,
     settings: &'n Settings,
-) -> Result<Opened<'n, R>, ServerFault> {
+) -> Result<Opened<'n, R>, ServerFault>
+    ensures wire { IfOk result (λ opened. IsWireTo settings.now.masters opened.polling.link.hearing.wire) }
+{
     let front = front_of(rt, settings)?;
     let (acceptor, waker) = acceptor_of(rt, alloc)?;
     let pages = pages_of(rt, settings)?;
@@ -641,6 +649,7 @@ fn serve_opened<'n, 'e, R: ServerHost>(
     opened: Opened<'n, R>,
     store: &mut FolderStore<'e, R>,
 ) -> Result<LifeEnd, ServerFault>
+    requires wired { IsWireTo settings.now.masters opened.polling.link.hearing.wire }
     ensures life { IfOk result (λ end. (life : ServerLife) × TellsOf settings.now end life) }
 {
     let Opened {

@@ -262,6 +262,7 @@ pub(crate) fn poller_of<'a, R>(
     requires first { 0 < context.server.now.life.epoch }
     ensures daemon { result.daemon ≡ new_daemon settings.now.machine context.entry.server.now.life.config context.entry.server.now.life.epoch }
     ensures configured { IsConfiguration context.entry.server.now.life.config }
+    ensures wire { result.polled.link.hearing.wire ≡ polled.entry.link.hearing.wire }
     ensures shown { result.shown ≡ None }
     ensures broken { result.broken ≡ None }
 {

@@ -7,6 +7,7 @@ use Rattle.tt_clock.specs.Clock.{ClockState}
 use Rattle.tt_node.specs.Sharing.{AllDown}
 use Rattle.tt_server.specs.declared.lives.WorkerEnd.{WorkerEnd}
 use Rattle.tt_server.specs.declared.workers.ServesClients.{ServesClients}
+use Rattle.tt_server.specs.Ring.{IsWireTo}
 use Rattle.tt_server.specs.Thread.{ServesAt, terms_in}
 use Rattle.tt_server.proofs.Living.{Begins, new-watches, sources-handed, handed-of, has-called, life-ended}
 use Rattle.tt_server.proofs.Ending.{told-so}
@@ -51,12 +52,13 @@ returns-clause-life g c =
     let source : c.tell-published.result.source ≡ c.tell-opened.result.source =
     ap (λ (k : Known). k.source) c.tell-published.ensures ∙ (c.run_daemon.ensures.source ∙ sym (ap (λ (k : Known). k.source) c.tell-opened.ensures)) in
     let ends = c.in-Some-joined.workers.items in
-    let called = has-called c.poller_of-poller.result.daemon c.run_daemon.new.poller.daemon c.run_daemon.new.teller.items c.tell-published.result.items c.new-clock.result.last c.run_daemon.new.clock.last
+    let wired = subst (IsWireTo c.args.settings.now.masters) (sym c.poller_of-poller.ensures.wire) c.requires.wired in
+    let called = has-called c.poller_of-poller.result.polled.link.hearing.wire c.poller_of-poller.result.daemon c.run_daemon.new.poller.daemon c.run_daemon.new.teller.items c.tell-published.result.items c.new-clock.result.last c.run_daemon.new.clock.last
     (ap (λ (k : ClockState). k.last) c.new-clock.ensures.new) (ap (λ (k : Known). k.items) c.tell-published.ensures) c.run_daemon.ensures.calls in
     let handed = handed-of c.tell-opened.result.source c.tell-published.result.source life.config.drift (terms_in life) ends source c.in-Some-joined.ensures.shares in
     let begin = subst (λ (ends : List WorkerEnd). All (Begins c.tell-published.result.items) ends) c.deref.ensures.value (c.read_published.ensures c.if-not-read_published.false) in
     let below : life.epoch < 2 ^ 64 = search rules in
     let count : length ends ≡ c.args.settings.now.config.workers = first_of (search rules, omega arith) in
-    life-ended c.args.settings.now life _ c.poller_of-poller.result.daemon c.run_daemon.new.poller.daemon c.run_daemon.new.clock.last c.requires.meant c.poller_of-poller.ensures.configured below
-    c.poller_of-poller.ensures.daemon called handed begin refl count
+    life-ended c.args.settings.now life _ c.poller_of-poller.result.polled.link.hearing.wire c.poller_of-poller.result.daemon c.run_daemon.new.poller.daemon c.run_daemon.new.clock.last c.requires.meant c.poller_of-poller.ensures.configured below
+    wired c.poller_of-poller.ensures.daemon called handed begin refl count
     (told-so _ _ _ _ _ _ (ap (λ (k : Known). k.items) c.tell-published.ensures) c.broken.ensures.value c.run_daemon.ensures.breaks)
