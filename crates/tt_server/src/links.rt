@@ -162,7 +162,7 @@ fn wire_of<R: Files<File = File> + RandomSource>(
     Ok(Wire::new(rings, ahead))
 }
 
-/// The link to the masters of the settings, and what ends its waits.
+/// The link to the masters of the settings, over a wire with the keys that these name for each of them, and what ends its waits.
 pub(crate) fn link_to<'a, R: SystemClock + Net + Files<File = File> + RandomSource>(
     rt: &'a R,
     alloc: Global,

@@ -709,7 +709,9 @@ fn serve_opened<'n, 'e, R: ServerHost>(
 /// the one that it made. Then it answers the epoch of the life, what its daemon published, and what each worker had seen
 /// of that. In contracts this is the end of a life with these settings: its daemon began new, its calls came one after the
 /// other, and its workers read nothing but what it published; all that a worker did was turns of its sessions, and what all
-/// workers have stamped is one legal history of one sequencer.
+/// workers have stamped is one legal history of one sequencer. Each packet that these calls were given was handed up over one
+/// wire to the masters of the settings: the keys of each are those with its numbers, from a list of keys of which no two have
+/// the same number.
 pub fn serve<R: ServerHost>(
     rt: &R,
     settings: &Settings,
