@@ -27,7 +27,7 @@ module _ {C V : Type 0} (gives : C → Option ℕ → C → Type 0) (failed : C 
   abbrev Events : Type 0
   Events = List (WorkerEvent gives failed says waits)
 
-  event-goes_on : (events : Events) (before : PostState C) (event : WorkerEvent gives failed says waits) (after : PostState C) → Leads events before event after → PostGoesOn before after
+  pub event-goes_on : (events : Events) (before : PostState C) (event : WorkerEvent gives failed says waits) (after : PostState C) → Leads events before event after → PostGoesOn before after
   event-goes_on events before (inl turn) after (began, left) =
       subst (λ (p : PostState C). PostGoesOn p after) began
       (subst (PostGoesOn turn.before.post) left (calls-go_on gives failed says turn.calls turn.before turn.after (talks-on gives failed says turn.calls turn.before turn.after turn.talked)))

@@ -15,3 +15,4 @@ pub mod FirstTurns
 pub mod CutLists
 pub mod WorkedCuts
 pub mod Timing
+pub mod TimingCuts

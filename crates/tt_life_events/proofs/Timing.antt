@@ -20,7 +20,7 @@ use Rattle.tt_life_events.specs.Timing.{AllTimedIn, call_times, session_times}
 use Rattle.tt_life_events.specs.Turns.{AllReadIn, AllTurnsOf, AreTimed, DoNotFall, TurnsOf, WorkTimes}
 
 -- ---- true times that do not fall, from one to another
-abbrev RiseTo : ℕ → List CallTimes → ℕ → Type 0
+abbrev pub RiseTo : ℕ → List CallTimes → ℕ → Type 0
 RiseTo from [] to = from ≤ to
 RiseTo from (times ∷ later) to = (from ≤ times.came) × (times.came ≤ times.read) × (times.read ≤ times.answered) × RiseTo times.answered later to
 
@@ -36,7 +36,7 @@ rise-both : (from : ℕ) (xs : List CallTimes) (mid : ℕ) (ys : List CallTimes)
 rise-both from [] mid ys to less rise = rise-from from mid ys to less rise
 rise-both from (x ∷ xs) mid ys to first rise = (first.0, first.1, first.2, rise-both x.answered xs mid ys to first.3 rise)
 
-rise-order : (from : ℕ) (times : List CallTimes) (to : ℕ) → RiseTo from times to → AreInOrder from times
+pub rise-order : (from : ℕ) (times : List CallTimes) (to : ℕ) → RiseTo from times to → AreInOrder from times
 rise-order from [] to rise = tt
 rise-order from (t ∷ times) to rise = (rise.0, rise.1, rise.2, rise-order t.answered times to rise.3)
 
@@ -54,7 +54,7 @@ module _ {C V : Type 0} (gives : C → Option ℕ → C → Type 0) (failed : C 
   Made = MadeCall gives failed says
 
   -- each reading that these calls were given was taken at its time
-  abbrev ReadOf : List Made → List CallTimes → Type 0
+  abbrev pub ReadOf : List Made → List CallTimes → Type 0
   ReadOf [] times = times ≡ []
   ReadOf (made ∷ more) [] = ⊥
   ReadOf (made ∷ more) (times ∷ later) =
@@ -72,14 +72,14 @@ module _ {C V : Type 0} (gives : C → Option ℕ → C → Type 0) (failed : C 
   read-in before (call ∷ calls) after talked [] read = absurd read
   read-in before (call ∷ calls) after talked (t ∷ times) read = (read.0, read-in talked.0 calls after talked.2 times read.1)
 
-  read-on : (before : StationState C V) (calls : List Call) (after : StationState C V) (talked : Conversation (AllowsOn gives failed says) before calls after) (times : List CallTimes)
+  pub read-on : (before : StationState C V) (calls : List Call) (after : StationState C V) (talked : Conversation (AllowsOn gives failed says) before calls after) (times : List CallTimes)
       → ReadOf (made_on gives failed says before calls after talked) times → AllReadAt gives failed says ppm moments before calls after talked times
   read-on before [] after talked times read = read
   read-on before (call ∷ calls) after talked [] read = absurd read
   read-on before (call ∷ calls) after talked (t ∷ times) read = (read.0, read-on talked.0 calls after talked.2 times read.1)
 
   -- ---- the session at a place
-  abbrev IsReadTo : List Made → List CallTimes → ℕ → Type 0
+  abbrev pub IsReadTo : List Made → List CallTimes → ℕ → Type 0
   IsReadTo made times to = ReadOf made times × RiseTo 0 times to
 
   at-turn : (here : Bool) (made more : List Made) (times own : List CallTimes) (begun to : ℕ) → begun ≤ to → IsReadTo made times begun → ReadOf more own → RiseTo begun own to
@@ -95,7 +95,7 @@ module _ {C V : Type 0} (gives : C → Option ℕ → C → Type 0) (failed : C 
     abbrev Events : Type 0
     Events = List (WorkerEvent gives failed says waits)
 
-    at-place : (place : ℕ) (events : Events) (times : List (List WorkTimes)) (to : ℕ) → AreTimed gives failed says waits ppm moments since events times to
+    pub at-place : (place : ℕ) (events : Events) (times : List (List WorkTimes)) (to : ℕ) → AreTimed gives failed says waits ppm moments since events times to
         → IsReadTo (made_at place events) (session_times place events times) to
     at-place place [] [] to timed = (refl, omega arith)
     at-place place [] (t ∷ times) to timed = absurd timed

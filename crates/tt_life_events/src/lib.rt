@@ -5,8 +5,8 @@
 //!
 //! Such a list is a list of events of the model of true time (`tt_world`), which replies to each reading and each stamp
 //! as the life did. A life whose workers share one sequencer has such a list. So has each cut of such a life, which is what
-//! its threads had done by some moment. And what is assumed of the sessions of a life follows from what is assumed of the
-//! turns of its workers.
+//! its threads had done by some moment. And what is assumed of the sessions of a life, or of those of a cut of it, follows
+//! from what is assumed of the turns of its workers.
 //!
 //! - `merging`: `merging_laws`. `listing`: `event_list_laws`. `living`: `life_list_laws`. `cutting`: `cut_list_laws`.
 //! - `turning`: `turn_laws`.
