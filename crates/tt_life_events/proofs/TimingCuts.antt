@@ -2,7 +2,6 @@
 use Rattle.std.proofs.Common.{◌≡◌, ℕ, ◌≤◌, List, [], ◌∷◌, ◌++◌, length, map, nat_eq, if◌then◌else◌, Bool, true, false, Option, Some, None, Contains, ◌⊎◌, inl, inr, refl, sym, ap, ◌∙◌, subst, append_assoc, append-nil, arith}
 use Rattle.std.specs.Option.{option_or}
 use Rattle.std.proofs.lemmas.Bool.{eqb-true}
-use Rattle.std.proofs.Math.Path.{path_j, subst_refl}
 use Rattle.std.proofs.lemmas.List.{map-append}
 use Rattle.tt_span.specs.Time.{max_time}
 use Rattle.tt_stamp.specs.declared.stampings.Stamping.{Stamping}
@@ -16,6 +15,7 @@ use Rattle.tt_connections.specs.Turns.{PostGoesOn, AllowsOn}
 use Rattle.tt_connections.specs.declared.presence.Question.{Question}
 use Rattle.tt_connections.proofs.Turning.{calls-go_on, talks-on}
 use Rattle.tt_workers.specs.Happening.{AreOfSessions, IsOfSession, LeadFrom, MadeCall, SessionEnd, SessionTurn, StandsFrom, WorkerEvent, calls_at, left_at, made_at, made_in, made_on, sessions_of}
+use Rattle.tt_workers.proofs.Making.{made-both, made-same, made-stays}
 use Rattle.tt_consistency.specs.Assumed.{moments_in}
 use Rattle.tt_consistency.specs.Cuts.{Cut, IsBegunIn, IsIn, published_in}
 use Rattle.tt_consistency.specs.Lives.{WorkerLife}
@@ -139,38 +139,6 @@ module _ {C V : Type 0} (gives : C → Option ℕ → C → Type 0) (failed : C 
         two_is = s.two_is;
       }
 
-  -- ---- conversations together
-
-  -- a conversation behind another, and their calls
-  made-both : (before mid after : StationState C V) (xs ys : List Call) (one : On before xs mid) (two : On mid ys after)
-      → (both : On before (xs ++ ys) after) × (made_on gives failed says before (xs ++ ys) after both ≡ made_on gives failed says before xs mid one ++ made_on gives failed says mid ys after two)
-  made-both before mid after [] ys same two =
-      path_j {x = before} (λ (y : StationState C V) (p : before ≡ y). (talked : On y ys after) → (both : On before ys after) × (made_on gives failed says before ys after both ≡ made_on gives failed says y ys after talked))
-      (λ talked. (talked, refl)) (sym same) two
-  made-both before mid after (x ∷ xs) ys one two =
-      let (both, are) = made-both one.0 mid after xs ys one.2 two in
-      let first : Made = record { before = record before { post = one.1.post }; call = x; after = one.0; allowed = one.1.allowed } in
-      ((one.0, one.1, both), ap (λ (l : List Made). first ∷ l) are)
-
-  -- a call in the same state under another name
-  made-same : (state other : StationState C V) (is : state ≡ other) (call : Call) (after : StationState C V) (allowed : Allows gives failed says state call after)
-      → ◌≡◌ {A = Made} (record { before = other; call = call; after = after; allowed = subst (λ (s : StationState C V). Allows gives failed says s call after) is allowed })
-      (record { before = state; call = call; after = after; allowed = allowed })
-  made-same state other is call after allowed =
-      path_j {x = state} (λ (s : StationState C V) (p : state ≡ s).
-      ◌≡◌ {A = Made} (record { before = s; call = call; after = after; allowed = subst (λ (s : StationState C V). Allows gives failed says s call after) p allowed })
-      (record { before = state; call = call; after = after; allowed = allowed }))
-      (ap (λ (a : Allows gives failed says state call after). record { before = state; call = call; after = after; allowed = a }) (subst_refl (λ (s : StationState C V). Allows gives failed says s call after) allowed))
-      is
-
-  -- where the post stayed between two calls
-  made-stays : (calls : List Call) (before after : StationState C V) (talked : In before calls after)
-      → made_on gives failed says before calls after (talks-on gives failed says calls before after talked) ≡ made_in gives failed says before calls after talked
-  made-stays [] before after talked = refl
-  made-stays (call ∷ calls) before after talked =
-      let first : Made = record { before = before; call = call; after = talked.0; allowed = talked.1 } in
-      ap (λ (l : List Made). first ∷ l) (made-stays calls talked.0 after talked.2)
-
   -- ---- the first calls of a turn instead of all of them
   record Instead (before : StationState C V) (calls : List Call) (after : StationState C V) (made : List Made) : Type 0 where
     pub mid : StationState C V
@@ -204,8 +172,8 @@ module _ {C V : Type 0} (gives : C → Option ℕ → C → Type 0) (failed : C 
         one = (turn.0, record { post = begun.post; goes = subst (PostGoesOn before.post) post talked.1.goes; allowed = allowed }, talks-on gives failed says own turn.0 left turn.2);
         two = subst (On left later) (sym is_end) (talks-on gives failed says later left end goes_on);
         one_is =
-            ap (λ (l : List Made). mine ∷ l) (made-stays own turn.0 left turn.2)
-            ∙ ap (λ (m : Made). m ∷ made-in turn.0 own left turn.2) (made-same begun there is_there c turn.0 turn.1);
+            ap (λ (l : List Made). mine ∷ l) (made-stays gives failed says own turn.0 left turn.2)
+            ∙ ap (λ (m : Made). m ∷ made-in turn.0 own left turn.2) (made-same gives failed says begun there is_there c turn.0 turn.1);
       }
 
   -- ---- events
@@ -376,7 +344,7 @@ module _ {C V : Type 0} (gives : C → Option ℕ → C → Type 0) (failed : C 
         (t : Split s.mid s.rest session.after whole more) → Instead s.mid t.early t.mid turn → Front session (made ++ turn)
     front-joined session made turn whole more others s t i =
         let begun : StationState C V = new_station session.before session.client in
-        let (both, are) = made-both begun s.mid i.mid s.early i.early s.one i.one in
+        let (both, are) = made-both gives failed says begun s.mid i.mid s.early i.early s.one i.one in
         record {
           after = i.mid;
           calls = s.early ++ i.early;

@@ -1,3 +1,3 @@
 mod Hearing
-mod Making
+pub mod Making
 mod Working

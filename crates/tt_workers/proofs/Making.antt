@@ -43,7 +43,7 @@ module _ {C V : Type 0} (gives : C → Option ℕ → C → Type 0) (failed : C 
       (ap (made_on gives failed says before xs after) (subst_refl (λ (l : List Call). On before l after) talked)) same
 
   -- a call in the same state under another name
-  made-same : (state other : StationState C V) (is : state ≡ other) (call : Call) (after : StationState C V) (allowed : Allows gives failed says state call after)
+  pub made-same : (state other : StationState C V) (is : state ≡ other) (call : Call) (after : StationState C V) (allowed : Allows gives failed says state call after)
       → ◌≡◌ {A = Made} (record { before = other; call = call; after = after; allowed = subst (λ (s : StationState C V). Allows gives failed says s call after) is allowed })
       (record { before = state; call = call; after = after; allowed = allowed })
   made-same state other is call after allowed =
@@ -54,7 +54,7 @@ module _ {C V : Type 0} (gives : C → Option ℕ → C → Type 0) (failed : C 
       is
 
   -- where the post stayed between two calls
-  made-stays : (calls : List Call) (before after : StationState C V) (talked : In before calls after)
+  pub made-stays : (calls : List Call) (before after : StationState C V) (talked : In before calls after)
       → made_on gives failed says before calls after (talks-on gives failed says calls before after talked) ≡ made_in gives failed says before calls after talked
   made-stays [] before after talked = refl
   made-stays (call ∷ calls) before after talked =
