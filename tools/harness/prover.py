@@ -86,6 +86,15 @@ def files_of(folder: str) -> list[str]:
     return sorted(os.path.join(at, name) for part in PARTS for at, _, names in os.walk(f"{folder}/{part}") for name in names)
 
 
+def has_tests(crate: str) -> bool:
+    """Whether a file of the crate has a test."""
+    for path in files_of(folder_of(crate)):
+        with open(path, encoding="utf-8") as file:
+            if path.endswith(".rt") and "\n#[test]" in file.read():
+                return True
+    return False
+
+
 def rlib(crate: str) -> str:
     """Where `rt ci` and `rt lib` leave the library of a crate."""
     return f"{folder_of(crate)}/out/rlib/{crate}.rlib"
